@@ -30,7 +30,7 @@ fn past_leaf<'a>(at: Cursor<'a>, counts: &mut Counts) -> Option<Cursor<'a>>
         counts.idents = counts.idents.wrapping_add(1);
         return Some(behind);
     }
-    if let Some((_, _, behind)) = at.lifetime() {
+    if let Some((_, _, behind)) = at.lifetime_parts() {
         counts.lifetimes = counts.lifetimes.wrapping_add(1);
         return Some(behind);
     }

@@ -1,16 +1,16 @@
 -- The small language: lines of the forms let NAME = VALUE; and use NAME, NAME;
 use Rattle.std.specs.Prelude.{◌≡◌, ◌≤◌, ◌++◌, ◌∷◌, [], List, false, length}
-use Rattle.rust_map.specs.declared.span.Span.{Span}
-use Rattle.proc_macro2.specs.Token.{Spanned}
-use Rattle.proc_macro2.specs.declared.delimiter.Delimiter.TheVariants.{Bracket}
-use Rattle.rust_leaf.specs.Leaf.{ident_text}
-use Rattle.rust_leaf.specs.declared.ident.Ident.{Ident}
-use Rattle.rust_leaf.specs.declared.literal.Literal.{Literal}
-use Rattle.syn_kinds.specs.Stands.{marks_stand}
-use Rattle.syn_kinds.specs.Table.{is_reserved, marks, word}
-use Rattle.syn_kinds.specs.Values.{word_tokens}
-use Rattle.syn_kinds.specs.declared.punctuation.Punctuation.{Punctuation}
-use Rattle.syn_lists.specs.Lists.{separators, values}
+use Rattle.syn_parse.specs.Span.{Span}
+use Rattle.syn_parse.specs.Token.{Spanned}
+use Rattle.syn_parse.specs.Delimiter.TheVariants.{Bracket}
+use Rattle.syn_parse.specs.Leaf.{ident_text}
+use Rattle.syn_parse.specs.Ident.{Ident}
+use Rattle.syn_parse.specs.Literal.{Literal}
+use Rattle.syn_parse.specs.Kinds.{marks_stand}
+use Rattle.syn_parse.specs.Table.{is_reserved, marks, word}
+use Rattle.syn_parse.specs.Values.{word_tokens}
+use Rattle.syn_parse.specs.Punctuation.{Punctuation}
+use Rattle.syn_parse.specs.Lists.{separators, values}
 use Rattle.syn_parse.specs.Groups.{IsGroup}
 use Rattle.syn_parse.specs.Leaves.{ident_token, literal_token}
 use Rattle.syn_parse.specs.Marks.{ReadsMarks}

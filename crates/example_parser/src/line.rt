@@ -1,10 +1,6 @@
 //! The syntax of the small language.
 
-use proc_macro2::{Ident, Literal};
-use std::alloc::Global;
-use syn_error::ParseFault;
-use syn_kinds::token;
-use syn_parse::{Parse, ParseBuffer, Punctuated};
+use syn_parse::{Ident, Literal, Punctuated, token};
 
 /// What stands before a `;`: a definition or an import.
 #[derive(Drop)]

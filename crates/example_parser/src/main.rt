@@ -1,6 +1,6 @@
 //! A parser of one's own: a small language of lines `let NAME = NUMBER;`, `let NAME = [NUMBER, NUMBER];` and
-//! `use NAME, NAME;`. Each line of standard input is a text of its own. Behind it stands what it says; or where it can't
-//! be read (line and column, columns from 0, or its end) and why.
+//! `use NAME, NAME;`. Each line of standard input is a text of its own. Behind it stands what it says; or where it
+//! can't be read (line and column, columns from 0, or its end) and why.
 //!
 //! - `line`: the syntax.
 //! - `read`: reads it.
@@ -11,14 +11,12 @@ mod read;
 
 use anyhow::{Result, anyhow};
 use line::{Definition, Import, Line, Value};
-use proc_macro2::{LineColumn, SourceMap, Span, TokenStream};
 use std::alloc::AllocError;
 use std::fmt::Display;
 use std::io::{Read, Write};
-use syn_error::{Error, ParseFault};
-use syn_kinds::token;
-use syn_parse::Punctuated;
-use syn_parse::parser::parse_stream;
+use syn_parse::{
+    Error, LineColumn, ParseFault, Punctuated, SourceMap, Span, TokenStream, parse_stream, token,
+};
 
 // Puts the values, with a space before each, and a line's end.
 fn put_values<T: Display>(

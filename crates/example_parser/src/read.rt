@@ -2,15 +2,11 @@
 
 ghost use Rattle.example_parser.specs.Lines.{ReadsLines};
 ghost use Rattle.std.specs.Prelude.{IfOk};
-ghost use Rattle.syn_lists.specs.Lists.{separators, values};
 ghost use Rattle.syn_parse.specs.Input.{rest};
+ghost use Rattle.syn_parse.specs.Lists.{separators, values};
 
 use crate::line::{Definition, Import, Line, Value};
-use proc_macro2::{Delimiter, Ident, Literal};
-use std::alloc::Global;
-use syn_error::ParseFault;
-use syn_kinds::token;
-use syn_parse::{Parse, ParseBuffer, Punctuated, parse_separated_nonempty};
+use syn_parse::{Delimiter, Ident, Literal, Parse, ParseBuffer, ParseFault, Punctuated, token};
 
 // What a line is read from is said by `reads`. Of what is refused nothing more is said here than that reading
 // stopped: see `docs/PARSING.md` on `refuses`.
@@ -68,7 +64,7 @@ impl Parse for Value {
         }
         if look.peek::<token::Bracket>()? {
             let (_, mut content) = input.parse_group(Delimiter::Bracket)?;
-            let numbers = content.parse_terminated::<Literal, token::Comma>()?;
+            let numbers = Punctuated::parse_terminated(&mut content)?;
             input.close(content);
             return Ok(Value::List(numbers));
         }
@@ -85,7 +81,7 @@ impl Parse for Import {
 
     fn parse(input: &mut ParseBuffer<'_>) -> Result<Import, ParseFault> {
         let use_token = input.parse::<token::Use>()?;
-        let names = parse_separated_nonempty::<Ident, token::Comma>(input)?;
+        let names = Punctuated::parse_separated_nonempty(input)?;
         Ok(Import { use_token, names })
     }
 }
@@ -94,7 +90,7 @@ impl Parse for Import {
 pub fn lines(input: &mut ParseBuffer<'_>) -> Result<Punctuated<Line, token::Semi>, ParseFault>
     ensures { IfOk result (λ lines. ReadsLines (rest input.old) (values lines) (separators lines)) }
 {
-    let lines = input.parse_terminated::<Line, token::Semi>()?;
+    let lines = Punctuated::<Line, token::Semi>::parse_terminated(input)?;
     if lines.empty_or_trailing() {
         return Ok(lines);
     }

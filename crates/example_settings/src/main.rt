@@ -13,7 +13,7 @@ use syn::{
     TokenStream, Tree, print, write,
 };
 use syn_kinds::token;
-use syn_parse::{ParseBuffer, Punctuated, parse_buffer, parse_terminated_with};
+use syn_parse::{ParseBuffer, Punctuated, parse_buffer};
 
 // A setting: its name, its type, and its value.
 #[derive(Drop)]
@@ -66,7 +66,7 @@ fn parse_list<'a>(
 ) -> Result<Punctuated<Setting<'a>, token::Comma>, ParseFault>
     ensures { IsOnward input.old input.new }
 {
-    parse_terminated_with(
+    Punctuated::parse_terminated_with(
         input,
         |input| -> Result<Setting, ParseFault>
             ensures { IsOnward input.old input.new }

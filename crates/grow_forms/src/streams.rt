@@ -12,7 +12,7 @@ use std::alloc::Global;
 use stops::Stop;
 use syn::{Arena, Kind, ParseFault, ParseForm, ParseForms, Plus, TokenBuffer, Tree, Type};
 use syn_kinds::token;
-use syn_parse::{ParseBuffer, Punctuated, parse_buffer, parse_terminated_with};
+use syn_parse::{ParseBuffer, Punctuated, parse_buffer};
 
 // Puts the type that stands first, as a stream of its own.
 fn put_type<'a>(
@@ -66,7 +66,7 @@ fn types<'a>(
 ) -> Result<Punctuated<Listed<'a>, token::Comma>, ParseFault>
     ensures { IsOnward input.old input.new }
 {
-    parse_terminated_with(
+    Punctuated::parse_terminated_with(
         input,
         |input| -> Result<Listed, ParseFault>
             ensures { IsOnward input.old input.new }

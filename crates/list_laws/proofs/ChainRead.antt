@@ -12,8 +12,8 @@ use Rattle.syn_grammar.proofs.Firm.{firm}
 use Rattle.syn_grammar.proofs.Founded.{all_founded}
 use Rattle.syn_grammar.proofs.Turns.{loop_fails, loop_stop, loop_turn}
 use Rattle.syn_grammar.proofs.Whole.{CallFits}
-use Rattle.syn_input.specs.ReadLists.{Reading}
-use Rattle.syn_read_lists.specs.ReadMany.{ReadsMany, ReadsTurns, StopsMany}
+use Rattle.syn_lists.specs.ReadLists.{Reading}
+use Rattle.syn_lists.specs.ReadMany.{ReadsMany, ReadsTurns, StopsMany}
 use Rattle.list_laws.specs.Chain.{GivesChain, chain, chain_tree, links_tree}
 use Rattle.list_laws.specs.Many.{IsEntry, IsListable, IsSeparator}
 use Rattle.list_laws.proofs.ManyRead.{few_turns, length_plain}

@@ -17,9 +17,9 @@ use Rattle.syn_grammar.proofs.Keeps.{got_kept, kept_interp}
 use Rattle.syn_grammar.proofs.Sound.{interp_sound}
 use Rattle.syn_grammar.proofs.Turns.{behind, list_fails, list_last, list_more, list_step, list_stop, more_none}
 use Rattle.syn_grammar.proofs.Whole.{reads_sound, takes}
-use Rattle.syn_input.specs.ReadLists.{Reading}
+use Rattle.syn_lists.specs.ReadLists.{Reading}
 use Rattle.syn_lists.specs.Pairs.{pairs}
-use Rattle.syn_read_lists.specs.ReadMany.{ReadsMany, ReadsTurns, StopsMany}
+use Rattle.syn_lists.specs.ReadMany.{ReadsMany, ReadsTurns, StopsMany}
 use Rattle.list_laws.specs.Many.{GivesList, IsEntry, IsListable, IsSeparator, pairs_tree}
 
 wrap_wrap : (f h : Tree → Tree) (o : Out) → wrap f (wrap h o) ≡ wrap (λ x. f (h x)) o

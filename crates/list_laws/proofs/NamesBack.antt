@@ -15,7 +15,7 @@ use Rattle.syn_lists.specs.Put.{put_list}
 use Rattle.syn_buffer.specs.Leaves.{ident_token}
 use Rattle.syn_peek.proofs.Shorter.{marks_shorter}
 use Rattle.syn_peek.specs.Marks.{ReadsMarks}
-use Rattle.syn_input.specs.ReadLists.{EndsInValue, ReadsPairs}
+use Rattle.syn_lists.specs.ReadLists.{EndsInValue, ReadsPairs}
 use Rattle.list_laws.specs.ReadBack.{AreNames, ArePlaces, IsReadFrom, printed, put_marks, put_name}
 use Rattle.list_laws.specs.ReadBack.{reads_marks, reads_name}
 use Rattle.list_laws.proofs.MarksBack.{marks_one, marks_read, past_first}

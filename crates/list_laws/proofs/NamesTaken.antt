@@ -12,7 +12,7 @@ use Rattle.syn_kinds.proofs.Marks.{marks_count}
 use Rattle.syn_lists.specs.Lists.{IsSeparated}
 use Rattle.syn_buffer.specs.Leaves.{ident_token}
 use Rattle.syn_peek.proofs.Shorter.{marks_shorter}
-use Rattle.syn_input.specs.ReadLists.{ReadsPairs, StopsAt}
+use Rattle.syn_lists.specs.ReadLists.{ReadsPairs, StopsAt}
 use Rattle.list_laws.specs.ReadBack.{AreNames, ArePlaces, IsRefused, no_marks, no_name, printed, reads_marks}
 use Rattle.list_laws.specs.ReadBack.{reads_name}
 use Rattle.list_laws.proofs.MarksBack.{marks_are_seen, past_first}

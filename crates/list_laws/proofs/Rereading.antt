@@ -11,7 +11,7 @@ use Rattle.syn_lists.specs.Lists.{IsSeparated}
 use Rattle.syn_lists.specs.Put.{put_list}
 use Rattle.syn_buffer.specs.Leaves.{ident_token}
 use Rattle.syn_buffer.specs.Seen.{seen}
-use Rattle.syn_input.specs.ReadLists.{ReadsList, ReadsPairs, StopsList}
+use Rattle.syn_lists.specs.ReadLists.{ReadsList, ReadsPairs, StopsList}
 use Rattle.list_laws.specs.ReadBack.{AreNames, ArePlaces, IsReadFrom, IsRefused, printed, put_marks, put_name}
 use Rattle.list_laws.specs.ReadBack.{no_marks, no_name, reads_marks, reads_name}
 use Rattle.list_laws.proofs.NamesBack.{flat, printed_once, put_flat}

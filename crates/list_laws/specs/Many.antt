@@ -11,7 +11,7 @@ use Rattle.syn_grammar.specs.Look.{past_marks, sees}
 use Rattle.syn_grammar.specs.Ranks.{top}
 use Rattle.syn_grammar.specs.Run.{Out, Got, Refused}
 use Rattle.syn_grammar.specs.Tree.{Tree, AMark, AWord, End, Final, More}
-use Rattle.syn_input.specs.ReadLists.{Reading}
+use Rattle.syn_lists.specs.ReadLists.{Reading}
 use Rattle.syn_lists.specs.Pairs.{pairs}
 
 -- the tree of values with the separators behind them: the last one may have none

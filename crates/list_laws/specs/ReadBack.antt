@@ -12,7 +12,7 @@ use Rattle.syn_kinds.specs.Values.{marks_tokens}
 use Rattle.syn_lists.specs.Put.{put_list}
 use Rattle.syn_buffer.specs.Leaves.{ident_token}
 use Rattle.syn_peek.specs.Marks.{ReadsMarks}
-use Rattle.syn_input.specs.ReadLists.{Reading, ReadsList, StopsList}
+use Rattle.syn_lists.specs.ReadLists.{Reading, ReadsList, StopsList}
 
 -- a name is one token, and read from one that is no keyword
 abbrev pub put_name : Ident → Put

@@ -14,7 +14,7 @@ ghost use Rattle.syn_grammar.specs.Tree.{Tree};
 ghost use Rattle.syn_input.specs.Input.{rest};
 ghost use Rattle.syn_lists.specs.Lists.{values};
 ghost use Rattle.list_laws.specs.Leaves.{mark_of};
-ghost use Rattle.syn_read_lists.specs.ReadMany.{ReadsBy, ReadsMany, RefusesBy, StopsMany};
+ghost use Rattle.syn_lists.specs.ReadMany.{ReadsBy, ReadsMany, RefusesBy, StopsMany};
 
 use rust_leaf::ident::Ident;
 use syn_error::fault::ParseFault;
@@ -22,7 +22,6 @@ use syn_input::{Parse, ParseBuffer};
 use syn_kinds::punctuation::Punctuation;
 use syn_lists::Punctuated;
 use syn_peek::Token;
-use syn_read_lists::parse_separated_nonempty;
 
 /// Where a function reads what an entry of the grammar reads, and the separator is those marks, a list of at least one
 /// value that is read by the function is what `chain` of that entry reads, with that tree and the same tokens left.
@@ -55,7 +54,7 @@ pub fn refused_as_chain<
 /// Reads names with a punctuation of two marks between each two of them, at least one: those that the grammar's `chain`
 /// of a name reads, with its tree, and none exactly where it is refused.
 ///
-/// The fault is that of `parse_separated_nonempty`.
+/// The fault is that of `Punctuated::parse_separated_nonempty`.
 pub fn read_names_two<const K: usize>(
     input: &mut ParseBuffer<'_>,
 ) -> Result<Punctuated<Ident, Punctuation<K, 2>>, ParseFault>
@@ -64,12 +63,12 @@ pub fn read_names_two<const K: usize>(
     ensures none { IfErr result (λ e. IsSyntax e
         → keeps (chain (mark_of K) (others_of K 2) ident) (plain (rest input.old)) ≡ Refused) }
 {
-    parse_separated_nonempty(input)
+    Punctuated::parse_separated_nonempty(input)
 }
 
 /// The same with a punctuation of three marks.
 ///
-/// The fault is that of `parse_separated_nonempty`.
+/// The fault is that of `Punctuated::parse_separated_nonempty`.
 pub fn read_names_three<const K: usize>(
     input: &mut ParseBuffer<'_>,
 ) -> Result<Punctuated<Ident, Punctuation<K, 3>>, ParseFault>
@@ -78,5 +77,5 @@ pub fn read_names_three<const K: usize>(
     ensures none { IfErr result (λ e. IsSyntax e
         → keeps (chain (mark_of K) (others_of K 3) ident) (plain (rest input.old)) ≡ Refused) }
 {
-    parse_separated_nonempty(input)
+    Punctuated::parse_separated_nonempty(input)
 }

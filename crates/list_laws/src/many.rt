@@ -13,7 +13,7 @@ ghost use Rattle.syn_grammar.specs.Tree.{Tree};
 ghost use Rattle.syn_input.specs.Input.{rest};
 ghost use Rattle.syn_lists.specs.Lists.{separators, values};
 ghost use Rattle.list_laws.specs.Leaves.{mark_of};
-ghost use Rattle.syn_read_lists.specs.ReadMany.{ReadsBy, ReadsMany, RefusesBy, StopsMany};
+ghost use Rattle.syn_lists.specs.ReadMany.{ReadsBy, ReadsMany, RefusesBy, StopsMany};
 
 use rust_leaf::ident::Ident;
 use syn_error::fault::ParseFault;
@@ -21,7 +21,6 @@ use syn_input::{Parse, ParseBuffer};
 use syn_kinds::punctuation::Punctuation;
 use syn_lists::Punctuated;
 use syn_peek::Token;
-use syn_read_lists::parse_separated_nonempty;
 
 /// Where a function reads what an entry of the grammar reads, and the separator is one mark, a list that is read by the
 /// function, up to where `E` stands, is what `many` of that entry reads, with that tree and the same tokens left.
@@ -58,7 +57,7 @@ pub fn refused_as_many<
 /// Reads names with a punctuation of one mark between each two of them, at least one: those that the grammar's `many`
 /// of a name reads, with its tree, and none exactly where it is refused.
 ///
-/// The fault is that of `parse_separated_nonempty`.
+/// The fault is that of `Punctuated::parse_separated_nonempty`.
 pub fn read_names<const K: usize>(
     input: &mut ParseBuffer<'_>,
 ) -> Result<Punctuated<Ident, Punctuation<K, 1>>, ParseFault>
@@ -67,5 +66,5 @@ pub fn read_names<const K: usize>(
     ensures none { IfErr result (λ e. IsSyntax e
         → keeps (many (λ _. false) (mark_of K) ident) (plain (rest input.old)) ≡ Refused) }
 {
-    parse_separated_nonempty(input)
+    Punctuated::parse_separated_nonempty(input)
 }

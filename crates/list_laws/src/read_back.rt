@@ -5,7 +5,7 @@ ghost use Rattle.std.specs.Prelude.{[], ◌≡◌, IfErr, IfOk, map};
 ghost use Rattle.syn_error.specs.Faults.{IsSyntax};
 ghost use Rattle.syn_buffer.specs.Leaves.{ident_token};
 ghost use Rattle.syn_buffer.specs.Seen.{seen};
-ghost use Rattle.syn_input.specs.ReadLists.{ReadsList, StopsList};
+ghost use Rattle.syn_lists.specs.ReadLists.{ReadsList, StopsList};
 ghost use Rattle.syn_lists.specs.Lists.{IsSeparated, separators, values};
 ghost use Rattle.syn_lists.specs.Put.{put_list};
 
@@ -20,7 +20,7 @@ use syn_lists::Punctuated;
 
 /// Prints a list, and reads what was printed to its end.
 ///
-/// The fault is that of `parse_terminated`, or that memory was refused.
+/// The fault is that of `Punctuated::parse_terminated`, or that memory was refused.
 pub fn reread<T: Parse + ToTokens, P: Parse + ToTokens>(
     alloc: Global,
     list: &Punctuated<T, P>,
@@ -33,7 +33,7 @@ pub fn reread<T: Parse + ToTokens, P: Parse + ToTokens>(
     let tokens = list.to_token_stream(alloc)?;
     let buffer = TokenBuffer::new2(alloc, &tokens, 1)?;
     let mut input = ParseBuffer::new(alloc, buffer.begin());
-    input.parse_terminated::<T, P>()
+    Punctuated::parse_terminated(&mut input)
 }
 
 /// Prints a list of names with punctuations of one mark between them, and reads it back: names of the same texts and

@@ -1,5 +1,6 @@
 -- Entries each of which is seen.
-use Rattle.std.proofs.Common.{◌≡◌, ◌∙◌, ℕ, zero, suc, ◌-◌, arith, List, [], ◌∷◌, ◌++◌, length, take, drop, refl, sym, ap}
+use Rattle.std.proofs.Common.{◌≡◌, ◌∙◌, ℕ, zero, suc, ◌-◌, arith, List, [], ◌∷◌, ◌++◌, length, take, drop, refl, sym}
+use Rattle.std.proofs.Common.{ap}
 use Rattle.std.specs.Prelude.{Bool, true, false, ◌&&◌, not, IsTrue, cond, option_map, slice_get, unwrap_or}
 use Rattle.std.proofs.lemmas.List.{drop-map, take-append-drop, take-map}
 use Rattle.std.proofs.lemmas.List.Folds.{list_all-append}

@@ -93,10 +93,10 @@ fn put_group<'a>(entries: &mut Vec<Entry<'a>>, group: &'a Group) -> Result<bool,
 }
 
 impl<'a> TokenBuffer<'a> {
-    /// The tokens of the stream, in a buffer with that number, by which its places are told from those of
-    /// others.
+    /// The tokens of the stream, in a buffer with that number, by which its places are told from those of others. The
+    /// number must be at least 1: that of no buffer is 0.
     ///
-    /// The error is that a growth was refused.
+    /// The error is that memory for the buffer was refused.
     #[tactic(auto, using(crate::proofs::Unsigned::leaves_unsigned))]
     pub fn new2(
         alloc: Global,

@@ -221,7 +221,8 @@ impl<'a> Cursor<'a> {
         }
     }
 
-    /// The identifier or keyword that stands there, and the place behind it.
+    /// The identifier or keyword that stands there, and the place behind it, or `None` where another token or none
+    /// does.
     #[inline]
     pub fn ident(self) -> Option<(&'a Ident, Cursor<'a>)>
         ensures some { IfSome result (λ r. Takes self.entry (ident_token r.0.now) r.1) }
@@ -236,7 +237,8 @@ impl<'a> Cursor<'a> {
         }
     }
 
-    /// The mark that stands there, a punctuation or an apostrophe, and the place behind it.
+    /// The mark that stands there, a punctuation or an apostrophe, and the place behind it, or `None` where another
+    /// token or none does.
     #[inline]
     pub fn mark(self) -> Option<(Punct, Cursor<'a>)>
         ensures some { IfSome result (λ r. Takes self.entry (punct_token r.0) r.1) }
@@ -251,7 +253,8 @@ impl<'a> Cursor<'a> {
         }
     }
 
-    /// The punctuation that stands there, and the place behind it. An apostrophe is none: it begins a lifetime.
+    /// The punctuation that stands there, and the place behind it, or `None` where another token or none does. An
+    /// apostrophe is no punctuation: it begins a lifetime.
     #[inline]
     pub fn punct(self) -> Option<(Punct, Cursor<'a>)>
         ensures some { IfSome result (λ r. Takes self.entry (punct_token r.0) r.1) }
@@ -264,7 +267,7 @@ impl<'a> Cursor<'a> {
         }
     }
 
-    /// The literal that stands there, and the place behind it.
+    /// The literal that stands there, and the place behind it, or `None` where another token or none does.
     #[inline]
     pub fn literal(self) -> Option<(&'a Literal, Cursor<'a>)>
         ensures some { IfSome result (λ r. Takes self.entry (literal_token r.0.now) r.1) }
@@ -279,9 +282,9 @@ impl<'a> Cursor<'a> {
         }
     }
 
-    /// The visible group with that delimiter that stands there: the place where its inside begins, its
-    /// spans, and the place behind it. Of an invisible delimiter there is none, since invisible groups are
-    /// passed through.
+    /// The visible group with that delimiter that stands there: the place where its inside begins, its spans, and the
+    /// place behind it. It is `None` where another group or token or none stands. Of an invisible delimiter there is
+    /// none, since invisible groups are passed through.
     #[inline]
     pub fn group(self, delimiter: Delimiter) -> Option<(Cursor<'a>, DelimSpan, Cursor<'a>)>
         ensures some { IfSome result (λ r. Enters self.entry delimiter r.1.join r.0 r.2) }
@@ -300,8 +303,8 @@ impl<'a> Cursor<'a> {
         }
     }
 
-    /// The visible group that stands there: the place where its inside begins, its delimiter, its spans, and
-    /// the place behind it.
+    /// The visible group that stands there: the place where its inside begins, its delimiter, its spans, and the place
+    /// behind it. It is `None` where another token or none stands.
     #[inline]
     pub fn any_group(self) -> Option<(Cursor<'a>, Delimiter, DelimSpan, Cursor<'a>)>
         ensures some { IfSome result (λ r. Enters self.entry r.1 r.2.join r.0 r.3) }

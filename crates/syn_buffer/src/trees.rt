@@ -76,7 +76,7 @@ impl<'a> Cursor<'a> {
     /// the stream that the buffer was made from. Of an invisible group that has been entered it is what is left
     /// of its inside.
     ///
-    /// The error is that a growth was refused.
+    /// The error is that memory for the copy was refused.
     #[tactic(auto, using(crate::proofs::Standing::seen_trees))]
     pub fn token_stream(self, alloc: Global) -> Result<TokenStream, AllocError>
         ensures trees { IfOk result (λ s. s ≡ trees_left self.entry) }
@@ -88,7 +88,7 @@ impl<'a> Cursor<'a> {
     /// The tree that stands there, which may be an invisible group, and the place behind it. There is none where no
     /// tree is left.
     ///
-    /// The error is that a growth was refused.
+    /// The error is that memory for the copy was refused.
     pub fn token_tree(self, alloc: Global) -> Result<Option<(TokenTree, Cursor<'a>)>, AllocError>
         ensures some { IfOk result (λ o. IfSome o (λ r. TakesTree self.entry r.0 r.1)) }
         ensures none { IfOk result (λ o. IfNone o (trees_left self.entry ≡ [])) }

@@ -28,8 +28,8 @@ impl<'a> Cursor<'a> {
         !self.all_visible
     }
 
-    /// The entries that are left of the list, which are whole trees. There is no answer where an invisible group stands in
-    /// the buffer: one that was entered before may close among them.
+    /// The entries that are left of the list, which are whole trees. There is no answer where an invisible group stands
+    /// in the buffer: one that was entered before may close among them.
     #[tactic(auto, using(crate::proofs::AllSeen::whole_seen, crate::proofs::AllSeen::seen_all))]
     pub fn entries(self) -> Option<&'a [Entry<'a>]>
         ensures some { IfSome result (λ es. es.now ≡ self.entry.entries.now) }
@@ -44,7 +44,8 @@ impl<'a> Cursor<'a> {
         }
     }
 
-    /// The place behind so many of the entries that are left, if those behind them are whole trees.
+    /// The place behind so many of the entries that are left. There must be as many, those behind them must be whole
+    /// trees, and `has_invisible_groups` must be false.
     pub fn behind(self, count: usize) -> Cursor<'a>
         requires visible { IsTrue self.all_visible }
         requires within { count ≤ ahead self }

@@ -1,5 +1,5 @@
 mod Closed
 mod Forks
 mod GroupTokens
+mod RawTexts
 mod Wholes
-pub mod ReadPairs

@@ -14,7 +14,8 @@ use Rattle.syn_input.specs.declared.input.Leftover.{Leftover}
 use Rattle.syn_input.specs.declared.input.ParseBuffer.{ParseBuffer}
 
 -- the beginning of a buffer of tokens
-pub begun : (tokens es : List Spanned) (begin : ParseBuffer) (at : Cursor) (closing : Span) (number end : ℕ) (v : Bool) →
+pub begun : (tokens es : List Spanned) (begin : ParseBuffer) (at : Cursor) (closing : Span) (number end : ℕ)
+    (v : Bool) →
     begin.cursor ≡ at → place.rest at ≡ seen es → es ≡ tokens → v ≡ all_seen tokens →
     place.scope at ≡ place.whole_at closing number end v → begin.noted ≡ None →
     IsBegin closing tokens begin

@@ -3,7 +3,7 @@ pub mod Words
 pub mod Reads
 pub mod Whole
 pub mod Within
-pub mod ReadLists
 pub mod Lookaheads
 pub mod Steps
 pub mod Commands
+pub mod Raw

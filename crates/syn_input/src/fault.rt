@@ -93,8 +93,9 @@ impl<'a> ParseBuffer<'a> {
         }
     }
 
-    // The fault that the next token is not expected.
-    pub(crate) fn unexpected(&self) -> ParseFault
+    /// The fault that the next token is not expected: it says so of that token, or at an end of what closes the list.
+    /// Where memory for the words is refused it is that.
+    pub fn unexpected(&self) -> ParseFault
         ensures { SaysAt (unexpected_words self.now.cursor.closer) (input.next_place self.now) result }
     {
         self.left_over(Leftover {

@@ -86,7 +86,8 @@ impl<'a> ParseBuffer<'a> {
         } = fork;
     }
 
-    /// Goes on where a fork stands. What was left over in groups that the fork has closed is left over here.
+    /// Goes on where a fork stands, which must be one of this stream and not behind it: of the same list, at this place
+    /// or past it. What was left over in groups that the fork has closed is left over here.
     pub fn advance_to(&mut self, fork: ParseBuffer<'a>)
         requires { IsPast self.old.cursor fork.cursor }
         ensures noted { self.new.noted ≡ first_of_two self.old.noted fork.entry.noted }

@@ -6,8 +6,8 @@ use rust_leaf::ident::Ident;
 use rust_leaf::literal::Literal;
 use rust_leaf::punct::Punct;
 use syn_error::fault::ParseFault;
+use syn_kinds::Lifetime;
 use syn_kinds::table::is_reserved;
-use syn_lifetime::Lifetime;
 use try_clone::TryClone;
 
 impl Parse for Literal {
@@ -89,11 +89,10 @@ impl Parse for Lifetime {
     ghost refuses = { λ ts. lifetime_stands (plain ts) ≡ false };
 
     fn parse(input: &mut ParseBuffer<'_>) -> Result<Lifetime, ParseFault> {
-        match input.cursor.lifetime() {
-            Some((apostrophe, ident, behind)) => {
-                let ident = ident.try_clone()?;
+        match input.cursor.lifetime()? {
+            Some((lifetime, behind)) => {
                 input.cursor = behind;
-                Ok(Lifetime { apostrophe, ident })
+                Ok(lifetime)
             }
             None => Err(input.expected("lifetime")),
         }

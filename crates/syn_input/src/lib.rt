@@ -12,7 +12,7 @@
 //! - `shown`: what is left of a stream, shown.
 //! - `step`, `within`: reading by functions.
 //! - `parser`: whole parses.
-//! - `lists`: reading lists of values with separators.
+//! - `ident_ext`: what identifiers have besides; `raw` (private): texts of raw identifiers.
 //! - `lookahead`: looking for several kinds at one place, and the error that none stands there.
 //! - `laws`: laws of streams that are read.
 #![tactic(auto)]
@@ -20,23 +20,25 @@
 pub mod delimited;
 pub mod fault;
 pub mod group;
+pub mod ident_ext;
 pub mod input;
 mod kinds;
 pub mod laws;
 mod leaves;
 pub mod lifetime_ext;
-pub mod lists;
 pub mod lookahead;
 mod marks;
 pub mod parse;
 mod parse_trees;
 pub mod parser;
+mod raw;
 mod shown;
 pub mod step;
 mod trees;
 pub mod within;
 
 pub use delimited::{Braces, Brackets, Delimited, Parens};
+pub use ident_ext::IdentExt;
 pub use input::{ParseBuffer, ParseStream};
 pub use lifetime_ext::LifetimeExt;
 pub use lookahead::Lookahead1;

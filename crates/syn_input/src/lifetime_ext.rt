@@ -7,7 +7,7 @@ ghost use Rattle.syn_input.specs.Input.{IsOnward, rest};
 use crate::input::ParseBuffer;
 use crate::parse::Parse;
 use syn_error::fault::ParseFault;
-use syn_lifetime::Lifetime;
+use syn_kinds::Lifetime;
 
 /// What a lifetime has besides. It is a trait, since `Lifetime` stands below the streams that are read.
 pub trait LifetimeExt: Parse {

@@ -31,7 +31,10 @@ pub trait Parse: Drop {
 }
 
 impl<'a> ParseBuffer<'a> {
-    /// Reads a value of that type.
+    /// Reads a value of that type, and leaves the stream behind it.
+    ///
+    /// The fault is that none stands there; the stream is then at its start or past it. Want of memory says nothing of
+    /// the tokens.
     pub fn parse<T: Parse>(&mut self) -> Result<T, ParseFault>
         ensures found { IfOk result (λ x. T.reads (rest self.old) x (rest self.new)) }
         ensures none { IfErr result (λ e. IsSyntax e → T.refuses (rest self.old)) }

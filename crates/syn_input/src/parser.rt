@@ -43,7 +43,9 @@ pub trait Parser {
         requires { may self }
         ensures { runs self input.old result input.new };
 
-    /// Reads a whole stream, as `parse_stream` does.
+    /// Reads a whole stream, as `parse_stream` does. The parser must be one that may be called on any stream (`may`).
+    ///
+    /// The fault is that of `parse_stream`.
     final fn parse2(self, alloc: Global, tokens: TokenStream) -> Result<Self::Output, ParseFault>
     where
         Self: Sized,
@@ -56,7 +58,7 @@ pub trait Parser {
     }
 
     /// Reads a whole stream that stands within that span, as what an attribute has in its parentheses does: a fault at
-    /// the stream's end is said there. Else it is as `parse2`.
+    /// the stream's end is said there. Else it is as `parse2`, its condition too.
     final fn parse_scoped(
         self,
         alloc: Global,
@@ -73,7 +75,8 @@ pub trait Parser {
         parse_within(alloc, self, scope, &tokens)
     }
 
-    /// Reads a whole text, and puts the text behind the others of the map.
+    /// Reads a whole text, and puts the text behind the others of the map. The parser must be one that may be called on
+    /// any stream (`may`).
     ///
     /// The fault is `MapFull` exactly if the map has no positions left for the text, else that the text has a lexical
     /// fault, or as that of `parse_stream`. The first two leave the map as it was.
@@ -129,7 +132,8 @@ impl<'a> ParseBuffer<'a> {
     }
 }
 
-/// Reads a whole stream by the parser: from its beginning to its end, with nothing left over in a group.
+/// Reads a whole stream by the parser: from its beginning to its end, with nothing left over in a group. The parser
+/// must be one that may be called on any stream (`may`).
 ///
 /// The fault is the parser's own, or that a token is left over: the first in a group that has been closed
 /// before it was read to its end, else the first behind what the parser has read.
@@ -167,8 +171,8 @@ fn parse_within<P: Parser + Drop>(
     }
 }
 
-/// Reads all tokens of the buffer by the function, as `parse_stream` does those of a stream. What is read may lend them,
-/// as forms of the syntax tree do.
+/// Reads all tokens of the buffer by the function, as `parse_stream` does those of a stream, and under the same
+/// condition. What is read may lend them, as forms of the syntax tree do.
 ///
 /// The fault is as that of `parse_stream`.
 pub fn parse_buffer<'a, T: Drop, F: FnOnce(&mut ParseBuffer<'a>) -> Result<T, ParseFault>>(

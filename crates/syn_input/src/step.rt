@@ -53,7 +53,8 @@ impl<'a> StepCursor<'a> {
 }
 
 impl<'a> ParseBuffer<'a> {
-    /// Goes on as the function says: it answers a value and the place from which is read next.
+    /// Goes on as the function says: it answers a value and the place from which is read next. It must be one that may
+    /// be called there, and that place must be of the same list, where this one is or past it.
     ///
     /// The fault is the function's own, and the place is then as before.
     pub fn step<R, F: FnOnce(StepCursor<'a>) -> Result<(R, Cursor<'a>), ParseFault>>(
@@ -76,7 +77,9 @@ impl<'a> ParseBuffer<'a> {
         Ok(value)
     }
 
-    /// Reads by the function.
+    /// Reads by the function, which must be one that may be called on any stream.
+    ///
+    /// The fault is the function's own, and the stream then stands where the function left it.
     pub fn call<T, F: FnOnce(&mut ParseBuffer<'a>) -> Result<T, ParseFault>>(
         &mut self,
         function: F,

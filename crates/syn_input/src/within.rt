@@ -14,8 +14,9 @@ use proc_macro2::group::DelimSpan;
 use syn_error::fault::ParseFault;
 
 impl<'a> ParseBuffer<'a> {
-    /// Reads the inside of the visible group with that delimiter by the function, and closes the group on
-    /// both outcomes: what is left over in it is refused at the end of the whole parse.
+    /// Reads the inside of the visible group with that delimiter by the function, and closes the group on both
+    /// outcomes: what is left over in it is refused at the end of the whole parse. The function must be one that may be
+    /// called on any stream.
     ///
     /// The fault is that no such group stands there, and then nothing has been read, or the function's own.
     pub fn within<T, F: FnOnce(&mut ParseBuffer<'a>) -> Result<T, ParseFault>>(

@@ -80,7 +80,7 @@ impl<const D: usize> Delimiters<D> {
         )
     }
 
-    /// Adds the group of what the function prints.
+    /// Adds the group of what the function prints, which must be one that may be called on any tokens.
     ///
     /// The error is that memory was refused, to this call or to the function. The tokens are as before then.
     pub fn surround<F>(&self, tokens: &mut TokenStream, f: F) -> Result<(), AllocError>

@@ -1,7 +1,8 @@
 //! Keywords.
 
+ghost use Rattle.rust_leaf.specs.Leaf.{ident_span, ident_text};
 ghost use Rattle.rust_map.specs.Spans.{call_site};
-ghost use Rattle.std.specs.Prelude.{◌++◌, ◌≡◌, Some};
+ghost use Rattle.std.specs.Prelude.{◌++◌, ◌≡◌, IfOk, Some};
 ghost use Rattle.std.specs.Str.{chars};
 ghost use Rattle.syn_kinds.specs.Table.{quoted, word};
 ghost use Rattle.syn_kinds.specs.Values.{word_tokens};
@@ -9,8 +10,9 @@ ghost use Rattle.syn_kinds.specs.Values.{word_tokens};
 use crate::put::put_word;
 use crate::table;
 use proc_macro2::tree::TokenStream;
+use rust_leaf::ident::Ident;
 use rust_map::span::Span;
-use std::alloc::AllocError;
+use std::alloc::{AllocError, Global};
 use std::fmt;
 use syn_error::to_tokens::ToTokens;
 use try_clone::TryClone;
@@ -46,6 +48,17 @@ impl<const K: usize> Keyword<K> {
         ensures { result.now ≡ quoted (word K) }
     {
         table::displayed_word(K)
+    }
+
+    /// The identifier that the keyword is, where it stands.
+    ///
+    /// The error is that memory for its text was refused.
+    #[tactic(auto, using(crate::proofs::Rows::word_is_identifier))]
+    pub fn to_ident(&self, alloc: Global) -> Result<Ident, AllocError>
+        ensures text { IfOk result (λ ident. ident_text ident ≡ word K) }
+        ensures span { IfOk result (λ ident. ident_span ident ≡ self.now.span) }
+    {
+        Ident::from_text(alloc, Keyword::<K>::word(), self.span)
     }
 
     /// Where it stands.

@@ -1,14 +1,16 @@
 //! The underscore.
 
+ghost use Rattle.rust_leaf.specs.Leaf.{ident_span, ident_text};
 ghost use Rattle.rust_map.specs.Spans.{call_site};
-ghost use Rattle.std.specs.Prelude.{◌++◌, ◌≡◌, Some, codes};
+ghost use Rattle.std.specs.Prelude.{◌++◌, ◌≡◌, IfOk, Some, codes};
 ghost use Rattle.syn_kinds.specs.Table.{quoted};
 ghost use Rattle.syn_kinds.specs.Values.{word_tokens};
 
 use crate::put::put_word;
 use proc_macro2::tree::TokenStream;
+use rust_leaf::ident::Ident;
 use rust_map::span::Span;
-use std::alloc::AllocError;
+use std::alloc::{AllocError, Global};
 use std::fmt;
 use syn_error::to_tokens::ToTokens;
 use try_clone::TryClone;
@@ -35,6 +37,17 @@ impl Underscore {
         ensures { result.now ≡ quoted (codes "_") }
     {
         "`_`"
+    }
+
+    /// The identifier that it is, where it stands.
+    ///
+    /// The error is that memory for its text was refused.
+    #[tactic(auto, using(crate::proofs::Rows::underscore_chars, crate::proofs::Rows::underscore_is_identifier))]
+    pub fn to_ident(&self, alloc: Global) -> Result<Ident, AllocError>
+        ensures text { IfOk result (λ ident. ident_text ident ≡ codes "_") }
+        ensures span { IfOk result (λ ident. ident_span ident ≡ self.now.span) }
+    {
+        Ident::from_text(alloc, "_", self.span)
     }
 
     /// Where it stands.

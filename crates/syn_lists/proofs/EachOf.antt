@@ -44,15 +44,26 @@ module _ (i : ℕ) (T : RattleType) where
 
     module _ (κ κ' : Lft) (q q' : Share) (bound : κ ⊑ κ') (b o : ℕ) (γ : GName) (items : Items.Denot) where
       abbrev pub lent : Fml
-      lent = (MutRef (named 0) κ Items).own_val (record { ref_ptr = (b, o); ghost_name = γ; now = items }) (vptr b o ∷ [])
+      lent = (MutRef (named 0) κ Items).own_val (record { ref_ptr = (b, o); ghost_name = γ; now = items })
+          (vptr b o ∷ [])
 
       abbrev pub at_call : callee.Ghost
-      at_call = (((κ, (κ', tt)), (q, (q', tt)), (bound, tt), (record { ref_ptr = (b, o); ghost_name = γ; now = items }, tt), (vptr b o ∷ [], tt)), tt)
+      at_call = (
+        (
+          (κ, (κ', tt)),
+          (q, (q', tt)),
+          (bound, tt),
+          (record { ref_ptr = (b, o); ghost_name = γ; now = items }, tt),
+          (vptr b o ∷ [], tt),
+        ),
+        tt,
+      )
 
       pub asks : κ' ⊑ T.lives → ent 𝓤 (sep 𝓤 (sem 𝓛 lent) (sep 𝓤 (𝓛.A.lft κ q) (𝓛.A.lft κ' q'))) (callee.pre at_call)
       asks inside = qed 𝓛 (‵ lent ∷ ‵ (flft κ q) ∷ ‵ (flft κ' q') ∷ []) ∵
           nothing ! $ use0 𝓛 (raw (fact 𝓤 (κ' ⊑ T.lives))) (fact_i 𝓤 _ (emp 𝓤) inside) $ join ! $
-          nothing ! $ move ! (2 ∷ 0 ∷ []) $ fjoin ! $ nothing ! $ move ! (4 ∷ 0 ∷ []) $ join ! $ move ! (3 ∷ 0 ∷ []) $ join ! $ join ! $ done !
+          nothing ! $ move ! (2 ∷ 0 ∷ []) $ fjoin ! $ nothing ! $ move ! (4 ∷ 0 ∷ []) $ join ! $ move ! (3 ∷ 0 ∷ []) $
+          join ! $ join ! $ done !
 
       -- what the vector ends as, once the iterator is gone
       abbrev pub ends : IterMut T.Denot → Fml
@@ -60,8 +71,10 @@ module _ (i : ℕ) (T : RattleType) where
 
       abbrev pub Given : Val → Item 𝓤
       Given v = later (some (λ (it : IterMut T.Denot).
-          ((‵ (flft κ q) ⊛ ‵ (flft κ' q') ⊛ ‵ ftrue) ⊛ ‵ ((iter_row (record { mir = named 0; lft = κ }) (param i T)).own_val it (v ∷ [])))
-          ⊛ some (λ (ws : Lasts (each.ended T) at_call.0.0 at_call.0.3). ‵ (lasts (each.ended T) at_call.0.0 at_call.0.3 ws)
+          ((‵ (flft κ q) ⊛ ‵ (flft κ' q') ⊛ ‵ ftrue) ⊛ ‵ ((iter_row (record { mir = named 0; lft = κ })
+          (param i T)).own_val it (v ∷ [])))
+          ⊛ some (λ (ws : Lasts (each.ended T) at_call.0.0 at_call.0.3). ‵
+          (lasts (each.ended T) at_call.0.0 at_call.0.3 ws)
           ⊛ ‵ (ends it) ⊛ raw (fact 𝓤 (iter_mut_left it ≡ items.items)))))
 
       pub gives : (v : Val) → ent 𝓤 (callee.post at_call v) (types.Kit.mean 𝓛 (Given v))

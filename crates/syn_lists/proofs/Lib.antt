@@ -6,3 +6,5 @@ pub mod Inserts
 pub mod Kept
 pub mod KeptPairs
 pub mod Puts
+mod ReadPairs
+mod Turns

@@ -26,7 +26,8 @@ with_both list vs ps = record { values = with_items list.values vs; separators =
 
 -- a vector holds what was written last through each of its values
 abbrev pub lends_items : (T : RattleType) → MutBor (Vec T.Denot Global) → IterMut T.Denot → Fml
-lends_items T items it = follows (vec_row T global ghosts) (Array T 0) items.ghost_name (iter_mut_name it.rest) (with_items items.now)
+lends_items T items it = follows (vec_row T global ghosts) (Array T 0) items.ghost_name (iter_mut_name it.rest)
+    (with_items items.now)
 
 module _ (T P : RattleType) (list : MutBor (Punctuated T.Denot P.Denot)) where
   -- it holds at that index what was written last
@@ -48,5 +49,6 @@ module _ (T P : RattleType) (list : MutBor (Punctuated T.Denot P.Denot)) where
   -- it holds what was written last through each of its values and each of its separators
   abbrev pub lends_pairs : PairsMut T.Denot P.Denot → Fml
   lends_pairs it =
-      follows_both (the_row T P) (Array T 0) (Array P 0) list.ghost_name (iter_mut_name it.values.rest) (iter_mut_name it.separators.rest)
+      follows_both (the_row T P) (Array T 0) (Array P 0) list.ghost_name (iter_mut_name it.values.rest)
+      (iter_mut_name it.separators.rest)
       (with_both list.now)

@@ -7,3 +7,5 @@ pub mod Pairs
 pub mod PairsLeft
 pub mod Put
 pub mod Retained
+pub mod ReadLists
+pub mod ReadMany

@@ -27,7 +27,7 @@ impl<T: ToTokens, P: ToTokens> ToTokens for Punctuated<T, P> {
 }
 
 impl<T, P: TryClone> Punctuated<T, P> {
-    /// The list of those values, as many as this one's, with copies of its separators.
+    /// The list of those values, which must be as many as this one's, with copies of its separators.
     ///
     /// The error is that memory was refused.
     pub fn with_values<U: Drop>(&self, others: Vec<U>) -> Result<Punctuated<U, P>, AllocError>

@@ -66,7 +66,7 @@ impl<T, P> Punctuated<T, P> {
         self.separators.as_slice()
     }
 
-    /// The first value.
+    /// The first value, or `None` where there are no values.
     pub fn first(&self) -> Option<&T>
         ensures { MatchOption result (values self.now ≡ []) (λ x. x.now ∷ drop 1 (values self.now) ≡ values self.now) }
     {
@@ -115,7 +115,8 @@ impl<T, P> Punctuated<T, P> {
         self.separators.push(punctuation)
     }
 
-    /// Takes the last value out, and the separator behind it, if there is one, too.
+    /// Takes the last value out, and the separator behind it, if there is one, too. It is `None` where there are no
+    /// values.
     pub fn pop(&mut self) -> Option<T>
     where
         P: Drop,
@@ -129,7 +130,7 @@ impl<T, P> Punctuated<T, P> {
         value
     }
 
-    /// Takes the separator behind the last value out, if there is one.
+    /// Takes the separator behind the last value out, or answers `None` where none stands there.
     pub fn pop_punct(&mut self) -> Option<P>
         ensures taken { IsSome result ↔ IsTrailing (values self.old) (separators self.old) }
         ensures separator { MatchOption result (separators self.new ≡ separators self.old)
@@ -144,7 +145,7 @@ impl<T, P> Punctuated<T, P> {
         }
     }
 
-    /// The last value.
+    /// The last value, or `None` where there are no values.
     pub fn last(&self) -> Option<&T>
         ensures { MatchOption result (values self.now ≡ [])
             (λ x. take (length (values self.now) - 1) (values self.now) ++ x.now ∷ [] ≡ values self.now) }
@@ -152,7 +153,7 @@ impl<T, P> Punctuated<T, P> {
         self.values.last()
     }
 
-    /// The value at an index, from 0.
+    /// The value at an index, from 0, or `None` where the index is not below `len`.
     pub fn get(&self, index: usize) -> Option<&T>
         ensures inside { IsSome result ↔ (index < length (values self.now)) }
         ensures value { IfSome result (λ x. x.now ≡ get_or (values self.now) index x.now) }
@@ -160,7 +161,8 @@ impl<T, P> Punctuated<T, P> {
         self.values.get(index)
     }
 
-    /// The first value, to be changed: the list then holds there what was written last.
+    /// The first value, to be changed: the list then holds there what was written last. It is `None` where there are no
+    /// values.
     pub fn first_mut(&mut self) -> Option<&mut T>
         ensures* writes_back { sem 𝓛 (lends_if T.row P.row self.entry 0 result) }
         ensures inside { IsSome result ↔ (0 < length (values self.old)) }
@@ -169,7 +171,8 @@ impl<T, P> Punctuated<T, P> {
         self.values.first_mut()
     }
 
-    /// The last value, to be changed: the list then holds there what was written last.
+    /// The last value, to be changed: the list then holds there what was written last. It is `None` where there are no
+    /// values.
     pub fn last_mut(&mut self) -> Option<&mut T>
         ensures* writes_back { sem 𝓛 (lends_last T.row P.row self.entry result) }
         ensures inside { IsSome result ↔ (0 < length (values self.old)) }
@@ -178,7 +181,8 @@ impl<T, P> Punctuated<T, P> {
         self.values.last_mut()
     }
 
-    /// The value at an index, from 0, to be changed: the list then holds there what was written last.
+    /// The value at an index, from 0, to be changed: the list then holds there what was written last. It is `None`
+    /// where the index is not below `len`.
     pub fn get_mut(&mut self, index: usize) -> Option<&mut T>
         ensures* writes_back { sem 𝓛 (lends_if T.row P.row self.entry index result) }
         ensures inside { IsSome result ↔ (index < length (values self.old)) }
@@ -187,7 +191,7 @@ impl<T, P> Punctuated<T, P> {
         self.values.get_mut(index)
     }
 
-    /// Takes the last value out, with the separator behind it, if there is one.
+    /// Takes the last value out, with the separator behind it, if there is one. It is `None` where there are no values.
     pub fn pop_pair(&mut self) -> Option<Pair<T, P>>
     where
         P: Drop,
@@ -290,13 +294,15 @@ impl<T, P> Index<usize> for Punctuated<T, P> {
 
     ghost index_gives = { λ list i x. x ≡ get_or (values list) i x };
 
+    /// The value at an index, from 0, which must be below `len`.
     fn index(&self, index: usize) -> &T {
         &self.values[index]
     }
 }
 
 impl<T, P> IndexMut<usize> for Punctuated<T, P> {
-    /// The value at an index, from 0, to be changed: the list then holds there what was written last.
+    /// The value at an index, from 0, to be changed: the list then holds there what was written last. The index must be
+    /// below `len`.
     fn index_mut(&mut self, index: usize) -> &mut T
         requires { index < length (values self.old) }
         ensures* writes_back { sem 𝓛 (lends_value T.row P.row self.entry index result) }

@@ -45,7 +45,8 @@ fn keep_in_front<T, P, F: FnMut(&mut T) -> bool>(
 
 impl<T: Drop, P: Drop> Punctuated<T, P> {
     /// Keeps the values at which the function answers `true`, in their order, as it left them, each with the
-    /// separator behind it. Behind the last one a separator stands exactly where one stood behind the last before.
+    /// separator behind it. Behind the last one a separator stands exactly where one stood behind the last before. The
+    /// function must be one that may be called on any value.
     pub fn retain<F: FnMut(&mut T) -> bool>(&mut self, keeps: F)
         requires { F.IsAlwaysCallable keeps }
         ensures filtered { RetainsInTurn (CalledAtMut F.FnMut) keeps (values self.old) (values self.new) }

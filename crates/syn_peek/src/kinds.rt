@@ -2,8 +2,10 @@
 
 use crate::token::Token;
 use crate::words::word_at;
+use proc_macro2::delimiter::Delimiter;
 use syn_buffer::position::Cursor;
 use syn_kinds::delimiters::Delimiters;
+use syn_kinds::group::Group;
 use syn_kinds::keyword::Keyword;
 use syn_kinds::markers::{End, IdentAny};
 use syn_kinds::underscore::Underscore;
@@ -51,6 +53,22 @@ impl<const D: usize> Token for Delimiters<D> {
 
     fn display() -> &'static str {
         Delimiters::<D>::display()
+    }
+}
+
+// Invisible groups are passed through, and none of their marks is seen: so none stands at any place.
+impl Token for Group {
+    ghost use Rattle.proc_macro2.specs.declared.delimiter.Delimiter.TheVariants as delimiter;
+    ghost use Rattle.syn_kinds.specs.Stands.{group_stands};
+
+    ghost stands = { group_stands delimiter.None };
+
+    fn peek(cursor: Cursor<'_>) -> bool {
+        cursor.group(Delimiter::None).is_some()
+    }
+
+    fn display() -> &'static str {
+        Group::display()
     }
 }
 

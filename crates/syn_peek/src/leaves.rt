@@ -4,8 +4,8 @@ use crate::token::Token;
 use rust_leaf::ident::Ident;
 use rust_leaf::literal::Literal;
 use syn_buffer::position::Cursor;
+use syn_kinds::Lifetime;
 use syn_kinds::table::is_reserved;
-use syn_lifetime::Lifetime;
 
 impl Token for Ident {
     ghost use Rattle.syn_kinds.specs.Stands.{ident_stands};
@@ -44,7 +44,7 @@ impl Token for Lifetime {
     ghost stands = { lifetime_stands };
 
     fn peek(cursor: Cursor<'_>) -> bool {
-        cursor.lifetime().is_some()
+        cursor.lifetime_parts().is_some()
     }
 
     fn display() -> &'static str {

@@ -1,5 +1,5 @@
 use Rattle.std.proofs.Common.{◌≤◌, length, subst, rules}
-use Rattle.syn_lists.specs.Lists.{separators, values}
+use Rattle.syn_parse.specs.Lists.{separators, values}
 use Rattle.syn_parse.specs.Input.{rest}
 use Rattle.syn_parse.specs.ReadLists.{ReadsList}
 use Rattle.example_parser.specs.Lines.{ReadsLine, reads_semi}

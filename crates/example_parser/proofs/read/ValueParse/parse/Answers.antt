@@ -1,6 +1,6 @@
 use Rattle.std.proofs.Common.{subst, sym, ap}
-use Rattle.proc_macro2.specs.declared.delimiter.Delimiter.TheVariants.{Bracket}
-use Rattle.syn_lists.specs.Lists.{separators, values}
+use Rattle.syn_parse.specs.Delimiter.TheVariants.{Bracket}
+use Rattle.syn_parse.specs.Lists.{separators, values}
 use Rattle.syn_parse.specs.Groups.{IsGroup}
 use Rattle.syn_parse.specs.Input.{rest}
 use Rattle.syn_parse.specs.Position as place

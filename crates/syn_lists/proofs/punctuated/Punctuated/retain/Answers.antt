@@ -11,7 +11,8 @@ returns-clause-pairs g c =
     let qs = separators c.args.self.now in
     let kept = c.keep_in_front-kept.result in
     let ps = c.keep_in_front-kept.new.separators in
-    retained (CalledAtMut g.F.FnMut) _ xs _ c.keep_in_front-kept.new.values _ qs _ ps _ kept c.as_mut_slice.ensures.value
+    retained (CalledAtMut g.F.FnMut) _ xs _ c.keep_in_front-kept.new.values _ qs _ ps _ kept
+    c.as_mut_slice.ensures.value
     c.as_mut_slice-2.ensures.value
     (cut_short kept _ _ _ _ c.truncate.ensures.items (omega arith) (omega arith))
     (λ full. elim c.if-trailing.branch [
