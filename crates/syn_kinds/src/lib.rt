@@ -6,6 +6,7 @@
 //! - `delimiters`, `group`: what encloses a group.
 //! - `markers`: kinds that are no tokens.
 //! - `lifetime`: lifetimes; `symbol`: those of texts.
+//! - `laws`: laws of kinds and of lifetimes that are compared.
 //! - `put` (private): prints one token.
 //!
 //! When a kind stands at the front of tokens is defined in `specs/Stands`.
@@ -14,6 +15,7 @@
 pub mod delimiters;
 pub mod group;
 pub mod keyword;
+pub mod laws;
 pub mod lifetime;
 pub mod markers;
 pub mod punctuation;

@@ -1,4 +1,5 @@
 pub mod Adding
+pub mod Alike
 pub mod Behind
 pub mod BothLent
 pub mod EachOf

@@ -7,5 +7,6 @@ pub mod Pairs
 pub mod PairsLeft
 pub mod Put
 pub mod Retained
+pub mod Alike
 pub mod ReadLists
 pub mod ReadMany

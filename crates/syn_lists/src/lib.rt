@@ -4,6 +4,7 @@
 //! - `pair`: a value and the separator behind it.
 //! - `iter`: the values one by one, from both ends.
 //! - `pairs`: the values with their separators, the same way.
+//! - `laws`: laws of lists that are compared.
 //! - `read`: lists that are read, to their end and of at least one value; `many`: until a kind stands.
 //! - `nowhere`: a kind that stands nowhere.
 //! - `retain` (private): what a function rejects is taken out.
@@ -13,6 +14,7 @@
 
 mod collect;
 pub mod iter;
+pub mod laws;
 pub mod many;
 pub mod nowhere;
 pub mod pair;

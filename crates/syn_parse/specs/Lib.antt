@@ -31,6 +31,7 @@ pub use Rattle.syn_kinds.specs.declared.underscore.Underscore
 pub use Rattle.syn_peek.specs.Marks
 -- of lists,
 pub use Rattle.syn_lists.specs.Added
+pub use Rattle.syn_lists.specs.Alike
 pub use Rattle.syn_lists.specs.Left as ValuesLeft
 pub use Rattle.syn_lists.specs.Lent
 pub use Rattle.syn_lists.specs.LentPair
