@@ -3,7 +3,6 @@
 ghost use Rattle.rust_leaf.specs.Leaf.{ident_span, ident_text};
 ghost use Rattle.std.specs.Prelude.{◌++◌, ◌≡◌, IfOk, [], if◌then◌else◌};
 ghost use Rattle.std.specs.Str.{chars};
-ghost use Rattle.syn_kinds.specs.Table.{word};
 ghost use Rattle.syn_kinds.specs.Values.{word_tokens};
 ghost use Rattle.syn_leaf.specs.Booleans.{bool_text};
 
@@ -24,15 +23,6 @@ pub struct LitBool {
     /// Where it stands.
     #[derive_where(skip(EqHashOrd))]
     pub span: Span,
-}
-
-// The word of a keyword, as an identifier that stands there.
-#[tactic(auto, using(syn_kinds::proofs::Rows::word_is_identifier))]
-fn word<const K: usize>(alloc: Global, span: Span) -> Result<Ident, AllocError>
-    ensures text { IfOk result (λ ident. ident_text ident ≡ word K) }
-    ensures span { IfOk result (λ ident. ident_span ident ≡ span) }
-{
-    Ident::from_text(alloc, Keyword::<K>::word(), span)
 }
 
 impl LitBool {
@@ -70,9 +60,9 @@ impl LitBool {
         ensures span { IfOk result (λ word. ident_span word ≡ self.now.span) }
     {
         if self.value {
-            word::<TRUE>(alloc, self.span)
+            Keyword::<TRUE>::new(self.span).to_ident(alloc)
         } else {
-            word::<FALSE>(alloc, self.span)
+            Keyword::<FALSE>::new(self.span).to_ident(alloc)
         }
     }
 }

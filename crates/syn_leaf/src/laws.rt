@@ -9,6 +9,9 @@ ghost use Rattle.rust_leaf.specs.Minus.{starts_with_minus};
 ghost use Rattle.rust_leaf.specs.declared.ident.Ident.{Ident as Name};
 ghost use Rattle.rust_escape.specs.declared.value.Value.{Value};
 ghost use Rattle.rust_lex.specs.declared.piece.LiteralKind.{LiteralKind};
+ghost use Rattle.std.specs.Cmp.{IsEquivalence};
+ghost use Rattle.std.specs.Hash as fed;
+ghost use Rattle.std.specs.Hash.{Alike};
 ghost use Rattle.std.specs.Prelude.{[], ◌++◌, ◌≡◌, ◌↔◌, IsFalse, IsTrue, List, false, true, ℕ};
 ghost use Rattle.syn_leaf.specs.Alike.{unspaced};
 ghost use Rattle.syn_leaf.specs.Kinds.{IsKind, is_kind, kind_stands};
@@ -27,6 +30,7 @@ use crate::lit::Lit;
 use crate::literal::{LitClass, LitToken};
 use crate::member::{Index, Member};
 use crate::operators::{BinOp, RangeLimits, UnOp};
+use std::hash::Hash;
 use syn_error::to_tokens::ToTokens;
 use syn_parse::Parse;
 
@@ -87,6 +91,30 @@ pub fn equal_members()
         ↔ (i.index ≡ j.index) }
     ensures apart { (i : Name) (j : Number) → IsFalse (⟦<Member as PartialEq>⟧.eq (Named i) (Unnamed j)) }
     ensures and_back { (i : Number) (j : Name) → IsFalse (⟦<Member as PartialEq>⟧.eq (Unnamed i) (Named j)) }
+{}
+
+/// Equality of leaves is an equivalence.
+pub fn equivalences<C: LitClass>()
+    ensures of_class { IsEquivalence ⟦<LitToken<C> as PartialEq>⟧.eq }
+    ensures literals { IsEquivalence ⟦<Lit as PartialEq>⟧.eq }
+    ensures booleans { IsEquivalence ⟦<LitBool as PartialEq>⟧.eq }
+    ensures indices { IsEquivalence ⟦<Index as PartialEq>⟧.eq }
+    ensures members { IsEquivalence ⟦<Member as PartialEq>⟧.eq }
+    ensures binary { IsEquivalence ⟦<BinOp as PartialEq>⟧.eq }
+    ensures unary { IsEquivalence ⟦<UnOp as PartialEq>⟧.eq }
+    ensures limits { IsEquivalence ⟦<RangeLimits as PartialEq>⟧.eq }
+{}
+
+/// Equal leaves are hashed alike, and an index is hashed as its number is, and a truth value as itself.
+pub fn hashed_alike(index: &Index, literal: &LitBool)
+    ensures by_number { ⟦<Index as Hash>⟧.hash_input index.now ≡ fed.u32 index.now.index }
+    ensures by_value { ⟦<LitBool as Hash>⟧.hash_input literal.now ≡ fed.bool literal.now.value }
+    ensures indices { Alike ⟦<Index as PartialEq>⟧.eq ⟦<Index as Hash>⟧.hash_input }
+    ensures booleans { Alike ⟦<LitBool as PartialEq>⟧.eq ⟦<LitBool as Hash>⟧.hash_input }
+    ensures members { Alike ⟦<Member as PartialEq>⟧.eq ⟦<Member as Hash>⟧.hash_input }
+    ensures binary { Alike ⟦<BinOp as PartialEq>⟧.eq ⟦<BinOp as Hash>⟧.hash_input }
+    ensures unary { Alike ⟦<UnOp as PartialEq>⟧.eq ⟦<UnOp as Hash>⟧.hash_input }
+    ensures limits { Alike ⟦<RangeLimits as PartialEq>⟧.eq ⟦<RangeLimits as Hash>⟧.hash_input }
 {}
 
 /// A literal of a class that was read is printed as the token that it was read from, its span included.
