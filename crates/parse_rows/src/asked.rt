@@ -17,7 +17,7 @@ pub enum Question {
     Listed,
     /// The same, of which two are taken out again.
     Emptied,
-    /// Names with pluses between them, at least one.
+    /// Names with pluses between them, keywords among them, at least one.
     Summed,
     /// Names with commas between them, until a `>`.
     Until,
@@ -25,6 +25,8 @@ pub enum Question {
     Name,
     /// A list of names with `::` between them, printed and read back.
     ReadBack,
+    /// A lifetime, and how many tokens are left behind it.
+    Lifetime,
     /// What is left of them, as it is shown.
     Shown,
     /// Whether a string stands first.
@@ -47,7 +49,7 @@ pub fn read_lists(page: &mut Page) {
         ask(text, Question::Listed, page);
     }
     ask("a , b ,", Question::Emptied, page);
-    for text in ["a + b c", "a", "", "a +", "a + +"] {
+    for text in ["a + b c", "a", "", "a +", "a + +", "a + fn"] {
         ask(text, Question::Summed, page);
     }
     for text in ["a , b > c", "a , > c", "> c", "a b > c", "a , , > c"] {
@@ -65,6 +67,13 @@ pub fn read_names(page: &mut Page) {
     }
     for text in ["a :: b ::", "a :: r#b", "a", ""] {
         ask(text, Question::ReadBack, page);
+    }
+}
+
+/// Lifetimes at a place.
+pub fn read_lifetimes(page: &mut Page) {
+    for text in ["'a", "'a: 'b", "'fn b", "'_", "a 'b", "+", "('a)", ""] {
+        ask(text, Question::Lifetime, page);
     }
 }
 
@@ -92,6 +101,7 @@ fn put(question: Question, begin: Cursor<'_>, page: &mut Page) {
         Question::Until => lookahead::until(begin, page),
         Question::Name => names::read(begin, page),
         Question::ReadBack => names::read_back(begin, page),
+        Question::Lifetime => names::lifetime(begin, page),
         Question::Shown => whole::shown(begin, page),
         Question::IsString => peek::<LitStr>(begin, page),
         Question::IsCharacter => peek::<LitChar>(begin, page),

@@ -9,10 +9,9 @@ use proc_macro2::{Delimiter, Group, Ident, SourceMap, TokenStream, TokenTree};
 use rows::{Page, Unanswered};
 use std::alloc::Global;
 use syn_error::ParseFault;
-use syn_input::parenthesized;
 use syn_kinds::token;
 use syn_parse::parser::parse_stream;
-use syn_parse::{ParseBuffer, Parser};
+use syn_parse::{ParseBuffer, Parser, parenthesized};
 
 // One identifier of a group in parentheses, whatever else stands in it.
 fn first_inside(input: &mut ParseBuffer<'_>) -> Result<Ident, ParseFault>

@@ -7,8 +7,7 @@ use std::alloc::{AllocError, Global};
 use syn_error::{ParseFault, ToTokens};
 use syn_kinds::token;
 use syn_lists::Punctuated;
-use syn_parse::{Cursor, Lookahead1, ParseBuffer};
-use syn_read_lists::{parse_separated_nonempty, parse_terminated_with, read_many};
+use syn_parse::{Cursor, IdentExt, Lookahead1, Parse, ParseBuffer, ParseBufferExt, read_many};
 
 /// Looks for so many kinds, none of which stands there.
 pub fn kinds(count: usize, begin: Cursor<'_>, page: &mut Page) {
@@ -53,22 +52,28 @@ pub fn put_list<P: ToTokens>(names: &Punctuated<Ident, P>, page: &mut Page) {
     }
 }
 
-/// Names with commas between them, to the end, by each of the two calls.
+/// Names with commas between them, to the end, by each of the three calls.
 pub fn listed(begin: Cursor<'_>, page: &mut Page) {
     put(terminated(page.alloc(), begin), page);
     put(terminated_with(page.alloc(), begin), page);
+    put(terminated_by(page.alloc(), begin), page);
 }
 
 /// Names with commas between them, to the end.
 pub fn terminated(alloc: Global, begin: Cursor<'_>) -> Read<token::Comma> {
-    let mut input = ParseBuffer::new(alloc, begin);
-    input.parse_terminated::<Ident, token::Comma>()
+    Punctuated::parse_terminated(&mut ParseBuffer::new(alloc, begin))
 }
 
 /// The same by a function.
 pub fn terminated_with(alloc: Global, begin: Cursor<'_>) -> Read<token::Comma> {
     let mut input = ParseBuffer::new(alloc, begin);
-    parse_terminated_with(&mut input, |input| input.parse::<Ident>())
+    Punctuated::parse_terminated_with(&mut input, |input| input.parse::<Ident>())
+}
+
+/// The same by the call that is handed a separator.
+pub fn terminated_by(alloc: Global, begin: Cursor<'_>) -> Read<token::Comma> {
+    let mut input = ParseBuffer::new(alloc, begin);
+    input.parse_terminated(Ident::parse, token::Comma::default())
 }
 
 /// Names with commas between them, of which two are taken out again.
@@ -84,10 +89,13 @@ pub fn emptied(begin: Cursor<'_>, page: &mut Page) {
     }
 }
 
-/// Names with pluses between them, at least one.
+/// Names with pluses between them, keywords among them, at least one.
 pub fn summed(begin: Cursor<'_>, page: &mut Page) {
     let mut input = ParseBuffer::new(page.alloc(), begin);
-    let read = parse_separated_nonempty::<Ident, token::Plus>(&mut input);
+    let read = Punctuated::<Ident, token::Plus>::parse_separated_nonempty_with(
+        &mut input,
+        Ident::parse_any,
+    );
     put(read, page);
     word(if input.is_empty() { "all" } else { "some left" }, page);
 }
@@ -95,8 +103,6 @@ pub fn summed(begin: Cursor<'_>, page: &mut Page) {
 /// Names with commas between them, until a `>`.
 pub fn until(begin: Cursor<'_>, page: &mut Page) {
     let mut input = ParseBuffer::new(page.alloc(), begin);
-    let read = read_many::<Ident, token::Comma, token::Gt, _>(&mut input, |input| {
-        input.parse::<Ident>()
-    });
+    let read = read_many::<Ident, token::Comma, token::Gt, _>(&mut input, Ident::parse);
     put(read, page);
 }

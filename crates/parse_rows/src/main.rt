@@ -9,6 +9,7 @@
 //! - `kinds`: each kind by its name: how a message shows it, and its text when it is printed.
 //! - `lists`: what is put in, taken out and gone over; `ends`: gone over from behind, and counted; `changed`: what is
 //!   written through lent values, taken out by a function, and made of pairs.
+//! - `compared`: lifetimes, members, operators, kinds and lists that are compared.
 //! - `errors`: messages put together, gone over, and as tokens.
 //! - `asked`: texts, and what is asked of their tokens.
 //! - `lookahead`: what is said where kinds that are looked for do not stand, and lists that are read with separators.
@@ -23,6 +24,7 @@
 
 mod asked;
 mod changed;
+mod compared;
 mod ends;
 mod errors;
 mod following;
@@ -52,6 +54,7 @@ impl Table for Calls {
     fn answer(&self, row: Row, page: &mut Page) -> Result<(), Unanswered> {
         match row.call.split_once('_') {
             Some(("peek", kind)) => leaves::peek_kind(kind, row.text, page),
+            Some(("compare", kind)) => compared::compare(kind, row.text, page),
             Some(("read", kind)) => leaves::read_kind(kind, row.text, page),
             None if row.call == "equal" => literals::equal(row.text, page),
             _ => literals::answer(row.call, row.text, page),
@@ -74,6 +77,8 @@ fn put_syntax(page: &mut Page) {
     errors::errors(page);
     asked::read_lists(page);
     asked::read_names(page);
+    asked::read_lifetimes(page);
+    names::of_tokens(page);
 }
 
 // What is asked of streams that are read.

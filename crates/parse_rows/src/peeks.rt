@@ -5,8 +5,7 @@ use crate::texts::put;
 use proc_macro2::{Ident, SourceMap, TokenStream, TokenTree};
 use rows::Page;
 use syn_error::ParseFault;
-use syn_kinds::{End, IdentAny, token};
-use syn_lifetime::Lifetime;
+use syn_kinds::{End, IdentAny, Lifetime, token};
 use syn_parse::{Parse, ParseBuffer, Parser};
 
 /// Whether a stream is as it should be, whose tokens are read.

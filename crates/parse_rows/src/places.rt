@@ -126,7 +126,8 @@ fn two_names(input: ParseStream<'_, '_>) -> Result<Ident, ParseFault> {
     input.parse::<Ident>()
 }
 
-/// A fault at the end of a stream is said where the stream stands, and else at the call site, which is the first column.
+/// A fault at the end of a stream is said where the stream stands, and else at the call site, which is the first
+/// column.
 pub fn at_the_end(page: &mut Page) {
     let mut map = SourceMap::new(page.alloc());
     put_scoped(&mut map, page);

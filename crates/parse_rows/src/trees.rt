@@ -6,6 +6,7 @@ use crate::whole::read;
 use proc_macro2::{Group, Ident, SourceMap, TokenStream, TokenTree};
 use rows::Page;
 use syn_error::{ParseFault, TextFault};
+use syn_kinds::token;
 use syn_parse::parser::{parse_str, parse_stream};
 use syn_parse::{Cursor, ParseBuffer, TokenBuffer};
 
@@ -51,6 +52,9 @@ fn put_invisible(stream: &TokenStream, page: &mut Page) {
         Ok(buffer) => {
             put_behind_name(buffer.begin(), page);
             put_behind_tree(buffer.begin(), page);
+            let input = ParseBuffer::new(page.alloc(), buffer.begin());
+            let is_group = input.peek::<token::Group>() | input.peek2::<token::Group>();
+            write!(page, "peek group: {is_group}\n");
         }
         Err(_) => page.cut(),
     }

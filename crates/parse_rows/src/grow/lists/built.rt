@@ -21,7 +21,8 @@ fn words(alloc: Global, texts: &[&str]) -> Result<Names, Stop> {
     Ok(names)
 }
 
-/// Values and separators that are put behind others. Where one is refused, a value comes back, and the list is as before.
+/// Values and separators that are put behind others. Where one is refused, a value comes back, and the list is as
+/// before.
 pub(crate) fn put_behind(page: &mut Page) -> Result<(), Stop> {
     let mut names = Names::new(page.alloc());
     for (text, before, between) in [

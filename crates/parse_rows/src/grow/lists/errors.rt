@@ -55,7 +55,8 @@ fn error_of(alloc: Global, words: &[&str]) -> Result<Error, Stop> {
     Ok(all)
 }
 
-/// An error that is extended by the messages of another one. Where that is refused, it keeps those before the refused one.
+/// An error that is extended by the messages of another one. Where that is refused, it keeps those before the refused
+/// one.
 pub(crate) fn extended(page: &mut Page) -> Result<(), Stop> {
     let mut error = error_of(page.alloc(), &["a"])?;
     match error.extend(error_of(page.alloc(), &["b", "c", "d"])?) {

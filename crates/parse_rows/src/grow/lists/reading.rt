@@ -2,22 +2,21 @@
 
 use crate::grow::given::Names;
 use crate::lists::show_tokens;
-use crate::lookahead::{terminated, terminated_with};
+use crate::lookahead::{terminated, terminated_by, terminated_with};
 use proc_macro2::Ident;
 use rows::Page;
 use std::alloc::Global;
 use stops::{Stop, refused};
 use syn_error::ParseFault;
 use syn_kinds::token;
-use syn_parse::{
-    Cursor, ParseBuffer, parse_separated_nonempty, parse_separated_nonempty_with, read_many,
-};
+use syn_parse::{Cursor, ParseBuffer, read_many};
 
 /// Puts a list that is read by each of the calls.
 pub(crate) fn put_lists(begin: Cursor<'_>, page: &mut Page) -> Result<(), Stop> {
     let alloc = page.alloc();
     put_read(terminated(alloc, begin), begin, page)?;
     put_read(terminated_with(alloc, begin), begin, page)?;
+    put_read(terminated_by(alloc, begin), begin, page)?;
     put_read(separated(alloc, begin), begin, page)?;
     put_read(separated_with(alloc, begin), begin, page)?;
     put_read(until(alloc, begin), begin, page)
@@ -46,13 +45,12 @@ fn begins(begin: Cursor<'_>) -> bool {
 }
 
 fn separated(alloc: Global, begin: Cursor<'_>) -> List {
-    parse_separated_nonempty::<Ident, token::Comma>(&mut ParseBuffer::new(alloc, begin))
+    Names::parse_separated_nonempty(&mut ParseBuffer::new(alloc, begin))
 }
 
 fn separated_with(alloc: Global, begin: Cursor<'_>) -> List {
-    parse_separated_nonempty_with(&mut ParseBuffer::new(alloc, begin), |input| {
-        input.parse::<Ident>()
-    })
+    let mut input = ParseBuffer::new(alloc, begin);
+    Names::parse_separated_nonempty_with(&mut input, |input| input.parse::<Ident>())
 }
 
 fn until(alloc: Global, begin: Cursor<'_>) -> List {
