@@ -339,3 +339,5 @@ group_seen d s n es v o =
     ∙ ap (λ x. spanned (Opens d) s ∷ x) (o.sees
     ∙ ap (λ x. seen (spanned_entries (take n es)) ++ x)
     (marked d (Closes d) s true (spanned_entries (drop (suc n) es)) refl v))
+
+pub ruleset settles = (none_passed, one_passed, seen_first, seen_end)

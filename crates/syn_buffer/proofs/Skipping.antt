@@ -202,3 +202,5 @@ passes_mark a b p t h = record {
   onward = t.onward;
   taken = t.taken;
 }
+
+pub ruleset passes_first = (passes_group, passes_lifetime, passes_mark, passes_name, passes_literal)

@@ -235,3 +235,5 @@ tree_more es at n t ts us f e a =
 pub laid_more : (es : List Entry) (at n : ℕ) (t : TokenTree) → FirstTree (drop at es) t n →
     is_laid (drop (at + n) es) ≡ true
 laid_more es at n t f = ap is_laid (sym (drop-drop n at es)) ∙ f.lies
+
+pub ruleset first_trees = (first_group, first_ident, first_punct, first_literal, past_mark, no_tree_past)

@@ -27,7 +27,7 @@ use rust_leaf::punct::Punct;
 use rust_map::span::Span;
 
 // Past the marks of invisible groups.
-#[tactic(auto, using(crate::proofs::Laid::none_passed, crate::proofs::Laid::one_passed, crate::proofs::Laid::seen_first, crate::proofs::Laid::seen_end))]
+#[tactic(auto, using(crate::proofs::Laid::settles))]
 #[inline(always)]
 fn settled<'a>(entries: &'a [Entry<'a>]) -> &'a [Entry<'a>]
     requires { IsTrue (is_laid entries.now) }

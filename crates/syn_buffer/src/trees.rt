@@ -30,7 +30,7 @@ fn stream_of(alloc: Global, entries: &[Entry<'_>]) -> Result<TokenStream, AllocE
 }
 
 // The first tree of the entries, and how many of them it takes.
-#[tactic(auto, using(crate::proofs::Standing::first_group, crate::proofs::Standing::first_ident, crate::proofs::Standing::first_punct, crate::proofs::Standing::first_literal, crate::proofs::Standing::past_mark, crate::proofs::Standing::no_tree_past))]
+#[tactic(auto, using(crate::proofs::Standing::first_trees))]
 #[cycle(building)]
 fn first_tree(
     alloc: Global,

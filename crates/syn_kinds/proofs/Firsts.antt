@@ -13,3 +13,5 @@ first_of bs rest c u e = chars_past_char bs rest c u e
 pub symbol_of : (bs rest : List ℕ) (c : ℕ) → IsUtf8 bs → bs ≡ encode_utf8 c ++ rest →
     is_symbol (chars bs) ≡ ((c == 39) && is_identifier (chars rest))
 symbol_of bs rest c u e = ap is_symbol (chars_past_char bs rest c u e)
+
+pub ruleset firsts = (first_of, symbol_of)

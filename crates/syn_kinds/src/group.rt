@@ -16,7 +16,8 @@ use std::alloc::AllocError;
 use std::fmt;
 use try_clone::TryClone;
 
-/// What encloses an invisible group. All are equal.
+/// What encloses an invisible group. All are equal. Places in a buffer pass through such groups, so whoever looks for
+/// one finds none.
 #[derive(Clone, Copy, Debug)]
 #[derive_where(PartialEq, Eq, Hash)]
 pub struct Group {

@@ -34,7 +34,7 @@ fn is_identifier(text: &str) -> bool
 }
 
 // The identifier behind the apostrophe, if the text is that of a lifetime.
-#[tactic(auto, using(crate::proofs::Firsts::first_of, crate::proofs::Firsts::symbol_of, std::proofs::lemmas::Grind::common_steps))]
+#[tactic(auto, using(crate::proofs::Firsts::firsts, std::proofs::lemmas::Grind::common_steps))]
 fn name_of(symbol: &str) -> Option<&str>
     ensures text { IfSome result (λ name. 39 ∷ chars name.now ≡ chars symbol.now) }
     ensures name { IfSome result (λ name. is_identifier (chars name.now) ≡ true) }

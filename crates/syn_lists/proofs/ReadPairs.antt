@@ -71,3 +71,5 @@ pub even_next : {T P : Type 0} (vs ws : List T) (ps qs : List P) (v : T) (p : P)
     → ws ≡ vs ++ v ∷ [] → qs ≡ ps ++ p ∷ [] → length vs ≡ length ps → length ws ≡ length qs
 even_next vs ws ps qs v p e f h =
     ap length e ∙ length-append vs (v ∷ []) ∙ ap (λ n. n + 1) h ∙ sym (length-append ps (p ∷ [])) ∙ sym (ap length f)
+
+pub ruleset read_pairs = (at_end, not_at_end, past_both, pairs_more)

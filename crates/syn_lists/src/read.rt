@@ -22,7 +22,7 @@ impl<T, P> Punctuated<T, P> {
     ///
     /// The fault is that of the value or of the separator that does not stand there, or that more values and
     /// separators were read than there are tokens. Want of memory says nothing of the tokens.
-    #[tactic(auto, using(crate::proofs::ReadPairs::at_end, crate::proofs::ReadPairs::not_at_end, crate::proofs::ReadPairs::past_both, crate::proofs::ReadPairs::pairs_more))]
+    #[tactic(auto, using(crate::proofs::ReadPairs::read_pairs))]
     pub fn parse_terminated(input: &mut ParseBuffer<'_>) -> Result<Punctuated<T, P>, ParseFault>
     where
         T: Parse,
