@@ -23,7 +23,7 @@ fn put_values<T: Display>(
     values: &Punctuated<T, token::Comma>,
     out: &mut String,
 ) -> Result<(), AllocError> {
-    for value in values {
+    for value in values.iter() {
         write!(out, " {value}")?;
     }
     out.push_str("\n")
@@ -54,7 +54,7 @@ fn put_line(line: &Line, out: &mut String) -> Result<(), AllocError> {
 }
 
 fn put_lines(lines: &Punctuated<Line, token::Semi>, out: &mut String) -> Result<(), AllocError> {
-    for line in lines {
+    for line in lines.iter() {
         put_line(line, out)?;
     }
     Ok(())
