@@ -37,7 +37,8 @@ pub fn reread<T: Parse + ToTokens, P: Parse + ToTokens>(
 }
 
 /// Prints a list of names with punctuations of one mark between them, and reads it back: names of the same texts and
-/// spans, and as many punctuations, each at its place. Each punctuation of the list has a span for each mark.
+/// spans, and as many punctuations, each at its place. The list must have as many punctuations as names, or one fewer,
+/// and each of them a span for each mark.
 ///
 /// Where no name of the list is a keyword or `_`, the only fault is that memory was refused.
 pub fn reread_one<const K: usize>(
@@ -55,7 +56,8 @@ pub fn reread_one<const K: usize>(
 }
 
 /// Prints a list of names with punctuations of two marks between them, and reads it back: names of the same texts and
-/// spans, and as many punctuations, each at its place. Each punctuation of the list has a span for each mark.
+/// spans, and as many punctuations, each at its place. The list must have as many punctuations as names, or one fewer,
+/// and each of them a span for each mark.
 ///
 /// Where no name of the list is a keyword or `_`, the only fault is that memory was refused.
 pub fn reread_two<const K: usize>(
@@ -73,7 +75,8 @@ pub fn reread_two<const K: usize>(
 }
 
 /// Prints a list of names with punctuations of three marks between them, and reads it back: names of the same texts and
-/// spans, and as many punctuations, each at its place. Each punctuation of the list has a span for each mark.
+/// spans, and as many punctuations, each at its place. The list must have as many punctuations as names, or one fewer,
+/// and each of them a span for each mark.
 ///
 /// Where no name of the list is a keyword or `_`, the only fault is that memory was refused.
 pub fn reread_three<const K: usize>(

@@ -38,7 +38,9 @@ pub trait Parser {
     /// From the first stream it answers so, and leaves the second.
     ghost runs: { Self → ParseBuffer → Result Self.Output ParseFault → ParseBuffer → Type 0 };
 
-    /// Reads a value from the stream.
+    /// Reads a value from the stream. The parser must be one that may be called on any stream (`may`).
+    ///
+    /// The fault is the parser's own.
     fn run(self, input: &mut ParseBuffer<'_>) -> Result<Self::Output, ParseFault>
         requires { may self }
         ensures { runs self input.old result input.new };
