@@ -1,10 +1,20 @@
 #!/usr/bin/env python3
-"""Writes the steps that go by first tokens alone, from the entries as they are written in syn_grammar's specs: for each kind of
-a list, a proof that its normal form is read back where its parts are (proofs/steps), what its tokens begin with (proofs/Starts)
-and what may not follow them (specs/Behind). The proofs are checked, and nothing rests on this script."""
+"""Writes the steps that go by first tokens alone, from the entries as they are written in syn_grammar's specs: for each kind
+of a list, a proof that its normal form is read back where its parts are (proofs/StepsOf..), what its tokens begin with
+(proofs/Starts), what may not follow them (`behind` in specs/After), which kinds have a step (`has_step` in specs/Covered), and
+the steps and laws of all of these (proofs/AllKinds), with the words that they name (proofs/Keywords). What else stands in
+After and Covered is written by hand. What says the same as what stands there is left alone. The proofs are checked, and
+nothing rests on this script.
+
+  steps.py            writes them
+  steps.py --list     writes nothing, and says which kinds first tokens don't decide
+  steps.py --missing  says besides which kinds have no step or no law"""
 import re,sys,os
+sys.dont_write_bytecode=True
 HERE=os.path.dirname(os.path.abspath(__file__)); CRATE=os.path.dirname(HERE)
 SPECS=os.path.join(os.path.dirname(CRATE),'syn_grammar','specs')
+sys.path.insert(0,os.path.join(HERE,'..','..','..','tools'))
+from antt_files import put
 FILES="Look Say Paths Types Patterns Attributes Generics Items Lists Forms Expressions Statements Table".split()
 PARAMS={'Style':['InModule','InExpression','InType','AtType'],'Plus':['WithPlus','WithoutPlus'],
  'Position':['Plain','InCondition','InArm','InStatement'],'Place':['InFile','InForeign','InTrait','InImpl']}
@@ -229,30 +239,6 @@ def has_ident(e):
 KEYWORDS={}
 def reserved(w):
     n=('reserved_' if w in RESERVED else 'free_')+{'_':'underscore','Self':'big_self'}.get(w,w); KEYWORDS[w]=n; return n
-def wrapped(text):
-    """no line longer than 120 characters: broken at spaces, the outermost first"""
-    out=[]
-    for line in text.split('\n'):
-        m=re.match(r'^(use [^{]*)\{(.*)\}$',line)
-        if m and len(line)>116:
-            now=[]
-            for n in m[2].split(', '):
-                if now and len(m[1]+', '.join(now+[n]))>112: out.append(f'{m[1]}{{{", ".join(now)}}}'); now=[]
-                now.append(n)
-            line=f'{m[1]}{{{", ".join(now)}}}'
-        while len(line)>118:
-            d=0; best=None; quoted=False; start=len(line)-len(line.lstrip())
-            for i,c in enumerate(line[:118]):
-                if c=='"': quoted=not quoted
-                if c=='(': d+=1
-                if c==')': d-=1
-                if c==' ' and not quoted and i>start+20 and not line[:i].endswith('λ'):
-                    key=(-d,i)
-                    if best is None or key>best[0]: best=(key,i)
-            if best is None: break
-            out.append(line[:best[1]]); line=' '*max(4,min(start,8))+line[best[1]+1:]
-        out.append(line)
-    return '\n'.join(out)
 class Skip(Exception): pass
 def nest(xs):
     """(a, (b, (c, tt)))"""
@@ -621,7 +607,7 @@ SECONDS={'found_bound','found_named_type'}
 HANDS={'found_restriction'}
 for n,f in home.items(): HOMES[n]=f
 def imports(text,mine=()):
-    """the use lines for the names that a text has"""
+    """the names that a text has, by their modules"""
     has=lambda w: re.search(r'(?<![A-Za-z_0-9\'])'+re.escape(w)+r"(?![A-Za-z_0-9'])",text)
     infix={'then':'◌then◌','or':'◌or◌'}
     by={}
@@ -668,219 +654,128 @@ def imports(text,mine=()):
     for w in sorted(KEYWORDS.values()):
         if has(w): add(B+'proofs.Keywords',w)
     if has('Step'): add(B+'proofs.Readies','Step')
-    return ('use Rattle.proc_macro2.specs.declared.delimiter.Delimiter.TheVariants as D\n' if has('D.None') else '')+''.join(f'use {m}.{{{", ".join(ws)}}}\n' for m,ws in sorted(by.items()))
+    if has('D.None'): by['Rattle.proc_macro2.specs.declared.delimiter.Delimiter.TheVariants as D']=[]
+    return dict(sorted(by.items()))
 # lists of first tokens that have a name
 BY_NAME={('Expression','InStatement'):'expression_starts',('AStatement',):'statement_starts ++ expression_starts',
  ('Statements',):'Sign 59 [] ∷ (statement_starts ++ expression_starts)',('Pattern',):'pattern_starts',
  **{k:'Then 35 [] (Opening Bracket) ∷ pattern_starts' for k in ARMS}}
 # kinds whose step is proved in the crate read_back
 ABOVE={('AStatement',)}
-def write():
-    global SOFT
-    good,bad=main()
-    order=[k for c,k in KINDS]
-    body=''
-    for k in list(GIVEN)+order:
-        if behind[k]: body+=f'behind {clause(k)} = '+list_of([show(l,l[1] not in('then','or')) for l in behind[k]])+'\n'
-        if k==('Statements',): body+='behind OneStatement = no the_end ∷ []\n'
-    body='abbrev pub behind : Kind → List Look\n'+body+'behind k = []\n'
-    body+="""
--- the form of an expression
-abbrev pub whole : Tree → Tree
-whole (Node k x) = whole x
-whole (Whole x) = x
-whole x = x
+def put_behind(kinds):
+    """specs/After: what may not follow a kind's tree, of what the looks see."""
+    lines=[]
+    for k in kinds:
+        if behind[k]: lines.append(f'behind {clause(k)} = '+list_of([show(l,l[1] not in('then','or')) for l in behind[k]]))
+        if k==('Statements',): lines.append('behind OneStatement = no the_end ∷ []')
+    block='\n'.join(['abbrev pub behind : Kind → List Look',*lines,'behind k = []'])
+    wanted=imports(block,mine=('behind',))
+    wanted.pop('Rattle.grammar_back.specs.After')
+    wanted[G+'Look']=['Look']+wanted.get(G+'Look',[])
+    wanted[G+'Kind']=['Kind']+wanted.get(G+'Kind',[])
+    put(f'{CRATE}/specs/After.antt',[block],wanted,keeps=lambda name: True)
 
--- It is a form that ends an arm or a statement, and neither . nor ? nor else follows it.
-abbrev pub EndsThere : Position → Tree → List Token → Type 0
-EndsThere p x s =
-    (ends_there p (whole x) ≡ true)
-    × LacksAll ((no (marks "..") then marks ".") ∷ marks "?" ∷ at "else" ∷ []) s
+def put_starts(kinds):
+    """proofs/Starts: what a kind's tokens begin with, where it has some."""
+    named=[('an expression, where a statement begins','expression_starts',('Expression','InStatement')),
+     ('a let or an item among statements','statement_starts',('AStatement',)),('a pattern','pattern_starts',('Pattern',))]
+    blocks=[f'-- {doc}\nabbrev pub {n} : List Class\n{n} = '+list_of([class_show(c) for c in starts[k]]) for doc,n,k in named]
+    lines=[f'starts {clause(k)} = '+BY_NAME.get(k,list_of([class_show(c) for c in starts[k]])) for k in kinds if starts[k]]
+    blocks.append('\n'.join(['abbrev pub starts : Kind → List Class',*lines,'starts k = []']))
+    wanted=imports('\n'.join(blocks),mine=('starts',))
+    wanted.pop('Rattle.grammar_back.proofs.Starts')
+    wanted[G+'Kind']=['Kind']+wanted.get(G+'Kind',[])
+    put(f'{CRATE}/proofs/Starts.antt',blocks,wanted)
 
--- An expression that else may follow: it ends neither in a jump or a half-open range without its operand nor in an if.
-abbrev pub is_if : Kind → Bool
-is_if ExprIf = true
-is_if k = false
-
-abbrev pub is_closed : Tree → Bool
-is_closed (Node k x) = is_closed x
-is_closed (Whole x) = is_closed x
-is_closed (Alone k y) = not (may_lack k || is_if k)
-is_closed (Front k y x) = is_closed x
-is_closed (Back l k y) = not (may_lack k)
-is_closed (Infix l k y r) = is_closed r
-is_closed x = false
-
--- of what stands in a struct expression: it is ..
-abbrev pub is_end : Tree → Bool
-is_end (Node k x) = is_end x
-is_end x = has the_base x
-
--- of a type: it is a path, qualified or not
-abbrev pub is_any_path : Tree → Bool
-is_any_path (Node (AType p) x) = is_any_path x
-is_any_path (Node (AnyPath s) x) = true
-is_any_path (Second x) = is_any_path x
-is_any_path x = false
-
--- of what stands behind impl: there are generics
-abbrev pub is_generic : Tree → Bool
-is_generic (Node k x) = is_generic x
-is_generic (First x) = true
-is_generic x = false
-
--- of a statement: it is an expression without a ; behind it
-abbrev pub is_open : Tree → Bool
-is_open (Second (Second (Second (Second (Pair a (Pair e s)))))) = not (is_there s)
-is_open x = false
-
-abbrev pub expression_of : Tree → Tree
-expression_of (Second (Second (Second (Second (Pair a (Pair (Called n e) s)))))) = e
-expression_of x = x
-
--- Its expression ends there, and no ; follows it, which would be its own; or it is none that is to end so.
-abbrev pub EndsStatement : Tree → List Token → Type 0
-EndsStatement (Node k x) s = EndsStatement x s
-EndsStatement x s =
-    (is_open x ≡ false) ⊎ (EndsThere InStatement (expression_of x) s × LacksAll (marks ";" ∷ []) s)
-
--- the statement that stands by itself
-abbrev pub in_one : Tree → Tree
-in_one (Node k x) = in_one x
-in_one (First x) = x
-in_one x = x
-
--- Behind an arm: where it has no comma, nothing, if its tree says so; or what it ends before, and no comma, which would
--- be its own.
-abbrev pub EndsArm : Tree → Tree → List Token → Type 0
-EndsArm e (First z) s = s ≡ []
-EndsArm e (Second (First z)) s = Unit {0}
-EndsArm e c s = EndsThere InArm e s × LacksAll (the_end ∷ marks "," ∷ []) s
-
-abbrev pub FollowsArm : Tree → List Token → Type 0
-FollowsArm (Node k x) s = FollowsArm x s
-FollowsArm (First (Pair o (Pair p (Pair g (Pair a (Pair (Called n e) (Called m c))))))) s = EndsArm e c s
-FollowsArm x s = s ≡ []
-
--- What may follow a kind's tree: what these looks don't see; behind a plain expression also else, as said above; behind
--- one in an arm or a statement what such a form ends before; behind a statement, by itself or among others, that has
--- its ; or is neither an expression nor a macro anything; behind an arm what is said above; behind a field of a struct
--- expression what may follow it, and behind .. the end; behind a type that is a path what may follow one without plus;
--- and behind the generics of an impl that are there anything.
-abbrev pub After : Kind → Tree → List Token → Type 0
-After (Expression Plain) x s =
-    LacksAll (behind (Expression Plain)) s ⊎ ((is_closed x ≡ true) × (sees (at "else") s ≡ true))
-After (Expression InArm) x s = LacksAll (behind (Expression InArm)) s ⊎ EndsThere InArm x s
-After (Expression InStatement) x s = LacksAll (behind (Expression InStatement)) s ⊎ EndsThere InStatement x s
-After AStatement x s = LacksAll (behind AStatement) s ⊎ EndsStatement x s
-After OneStatement x s = LacksAll (behind OneStatement) s ⊎ EndsStatement (in_one x) s
-After Arm x s = FollowsArm x s
-After AFieldValue x s =
-    LacksAll (behind AFieldValue) s ⊎ ((is_end x ≡ false) × LacksAll (behind FieldValue) s)
-After (AType WithPlus) x s =
-    LacksAll (behind (AType WithPlus)) s ⊎ ((is_any_path x ≡ true) × LacksAll (behind (AType WithoutPlus)) s)
-After ImplGenerics x s = LacksAll (behind ImplGenerics) s ⊎ (is_generic x ≡ true)
-After k x s = LacksAll (behind k) s
-"""
-    head="-- What may not follow a kind's tree, of what the looks see. Written by tools/steps.py, from the entries.\n"
-    head+=imports(body,mine=('behind',)).replace('use Rattle.grammar_back.specs.After.{behind}\n','').replace('use Rattle.syn_grammar.specs.Look.{','use Rattle.syn_grammar.specs.Look.{Look, ').replace('use Rattle.syn_grammar.specs.Kind.{','use Rattle.syn_grammar.specs.Kind.{Kind, ')
-    head=head.replace('specs.Kind.{Kind, ','specs.Kind.{Kind, Position, ',1)
-    head+='use Rattle.syn_grammar.specs.Tree.{Tree, Pair, First, Second, Called, Node, Whole, Alone, Front, Back, Infix}\nuse Rattle.syn_grammar.specs.Parens.{may_lack}\nuse Rattle.syn_grammar.specs.Kept.{is_there}\nuse Rattle.std.specs.Prelude.{not, ◌||◌}\nuse Rattle.syn_grammar.specs.Name.{the_base}\nuse Rattle.syn_grammar.specs.Part.{has}\nuse Rattle.syn_grammar.specs.Forms.{ends_there}\nuse Rattle.proc_macro2.specs.Token.{Token}\nuse Rattle.std.specs.Prelude.{◌⊎◌, Bool}\nuse Rattle.grammar_back.specs.Sees.{LacksAll}\n'
-    open(f'{CRATE}/specs/After.antt','w').write(wrapped(head+'\n'+body))
-    body=''
-    for k in list(GIVEN)+order:
-        if starts[k]: body+=f'starts {clause(k)} = '+BY_NAME.get(k,list_of([class_show(c) for c in starts[k]]))+'\n'
-    lists=[('an expression, where a statement begins','expression_starts',starts[('Expression','InStatement')]),
-     ('a let or an item among statements','statement_starts',starts[('AStatement',)]),
-     ('a pattern','pattern_starts',starts[('Pattern',)])]
-    named=''.join(f'-- {doc}\nabbrev pub {n} : List Class\n{n} = '+list_of([class_show(c) for c in cs])+'\n\n' for doc,n,cs in lists)
-    body=named+'abbrev pub starts : Kind → List Class\n'+body+'starts k = []\n'
-    head="-- What a kind's tokens begin with, where it has some. Written by tools/steps.py, from the entries.\n"
-    head+=imports(body,mine=('starts',)).replace('use Rattle.grammar_back.proofs.Starts.{starts}\n','').replace('use Rattle.syn_grammar.specs.Kind.{','use Rattle.syn_grammar.specs.Kind.{Kind, ')
-    open(f'{CRATE}/proofs/Starts.antt','w').write(wrapped(head+'\n'+body))
+def put_steps(good):
+    """proofs/StepsOf..: the steps of each category."""
+    unfolded='unfolding table skips is_path_keyword is_plain_name is_bool is_name'
     for cat in CATEGORIES:
-        body=''
+        blocks=[]
         for c,k in good:
             if c!=cat: continue
             e=entry(k)
             t=weak(e,behind[k])
-            extra=['is_path_keyword','is_plain_name','is_bool','is_name']
-            if k[0]=='ConstParam' or k[0]=='LiteralPattern' or k[0]=='RangeBound': pass
             if k in ENTRIES:
                 n=SNAKE(k).replace('step_','entry_',1)
-                body+=f'\npub {n} : Found (table {kshow(k)}) (behind {kshow(k)}) (starts {kshow(k)})\nunfolding table skips {" ".join(extra)}\n{n} = {t}\n'
-                continue
-            body+=f'\npub {SNAKE(k)} : Step {kshow(k)}\nunfolding table skips {" ".join(extra)}\n{SNAKE(k)} = {"maybe" if skips[k] else "found"}_step {kshow(k)} refl refl {t}\n'
-        head=f"-- The steps of {cat.lower()}, of those that go by first tokens alone. Written by tools/steps.py, from the entries.\n"
-        open(f'{CRATE}/proofs/StepsOf{cat}.antt','w').write(wrapped(head+imports(body)+body))
-    # which kinds are covered, their steps and their laws
-    HAND={}; homes={}
+                blocks.append(f'pub {n} : Found (table {kshow(k)}) (behind {kshow(k)}) (starts {kshow(k)})\n{unfolded}\n{n} = {t}')
+            else:
+                blocks.append(f'pub {SNAKE(k)} : Step {kshow(k)}\n{unfolded}\n{SNAKE(k)} = {"maybe" if skips[k] else "found"}_step {kshow(k)} refl refl {t}')
+        put(f'{CRATE}/proofs/StepsOf{cat}.antt',blocks,imports('\n'.join(blocks)))
+
+def found_in_proofs(pattern,is_read):
+    """What a pattern finds in the files of lemmas that are read: of each kind the name, and the file that has it."""
+    found={}
     for f in sorted(os.listdir(f'{CRATE}/proofs')):
-        if f.endswith('.antt') and f not in('AllKinds.antt','Printed.antt'):
-            for m in re.finditer(r'^pub law_([a-z_]+) : KindLaw (\w+|\(\w+ \w+\))',open(f'{CRATE}/proofs/{f}').read(),re.M):
-                HAND[tuple(m[2].strip('()').split())]='law_'+m[1]; homes['law_'+m[1]]=f[:-5]
-    HANDSTEPS={}
-    for f in sorted(os.listdir(f'{CRATE}/proofs')):
-        if f.endswith('.antt') and not f.startswith('StepsOf') and f not in('AllKinds.antt','Readies.antt'):
-            for m in re.finditer(r'^pub (step_[a-z_]+) : Step (\w+|\(\w+ \w+\))',open(f'{CRATE}/proofs/{f}').read(),re.M): HANDSTEPS[tuple(m[2].strip('()').split())]=(m[1],f[:-5])
-    FORGET={'Parameter','DynType','ImplType','AStatement','Meta','Member','Index','Arm','AnArgument','ConstParam'}
-    TIDY={'Where','Generics','BoundsColon','LifetimeColon','GenericParams','Arguments','ATypeAlias','AnImpl'}
-    def has_any(g,names,seen=()):
-        if g[0]!='app': return False
-        if g[1] in names: return True
-        if g[1] in('ref','word','literal','keyword','sign','marks','at'): return False
-        if g[1] in defs and g[1] not in seen:
-            b=call(g[1],g[2]); 
-            if b is not None and has_any(b,names,seen+(g[1],)): return True
-        return any(has_any(a,names,seen) for a in g[2] if a[0]=='app')
+        if f.endswith('.antt') and is_read(f):
+            for m in re.finditer(pattern,open(f'{CRATE}/proofs/{f}').read(),re.M): found[tuple(m[2].strip('()').split())]=(m[1],f[:-5])
+    return found
+
+FORGET={'Parameter','DynType','ImplType','AStatement','Meta','Member','Index','Arm','AnArgument','ConstParam'}
+TIDY={'Where','Generics','BoundsColon','LifetimeColon','GenericParams','Arguments','ATypeAlias','AnImpl'}
+def has_any(g,names,seen=()):
+    """whether an entry has one of these words"""
+    if g[0]!='app': return False
+    if g[1] in names: return True
+    if g[1] in('ref','word','literal','keyword','sign','marks','at'): return False
+    if g[1] in defs and g[1] not in seen:
+        b=call(g[1],g[2]); 
+        if b is not None and has_any(b,names,seen+(g[1],)): return True
+    return any(has_any(a,names,seen) for a in g[2] if a[0]=='app')
+
+def covered_kinds(good):
+    """The kinds that have a step and a law, with both: each a name and the file that has it; no law's name of a simple kind."""
+    laws=found_in_proofs(r'^pub (law_[a-z_]+) : KindLaw (\w+|\(\w+ \w+\))',lambda f: f not in('AllKinds.antt','Printed.antt'))
+    steps=found_in_proofs(r'^pub (step_[a-z_]+) : Step (\w+|\(\w+ \w+\))',
+        lambda f: not f.startswith('StepsOf') and f not in('AllKinds.antt','Readies.antt'))
     goodset={k for c,k in good if k not in ENTRIES}
-    covered=[]; law={}; stepof={}
+    covered={}; no_law=[]; no_step=[]
     for c,k in KINDS:
         if k in ABOVE: continue
-        if k in goodset: stepof[k]=(SNAKE(k),'StepsOf'+c)
-        elif k in HANDSTEPS: stepof[k]=HANDSTEPS[k]
-        else: continue
+        step=(SNAKE(k),'StepsOf'+c) if k in goodset else steps.get(k)
+        if step is None: no_step.append(k); continue
         e=call('table',[('app',k[0],[('app',a,[]) for a in k[1:]])])
-        simple=not has_any(e,('star','repeated','judged','dropped')) and k[0] not in FORGET|TIDY
-        if k in HAND: law[k]=HAND[k]
-        elif simple: law[k]=None
-        else: continue
-        covered.append(k)
-    text=open(f'{CRATE}/specs/Covered.antt').read()
-    i=text.index('unfoldable pub has_step'); j=text.index('-- The same of expressions')
-    lines='unfoldable pub has_step : Kind → Bool\n'+''.join(f'has_step {clause(k)} = true\n' for k in covered)+'has_step k = false\n\n'
-    text=text[:i]+lines+text[j:]
-    names=sorted({w for k in covered for w in k})
-    text=re.sub(r'(use Rattle.syn_grammar.specs.Kind.{[^}]*}\n)+',lambda m: 'use Rattle.syn_grammar.specs.Kind.{'+', '.join(['Kind','Expression']+sorted(set(names)|{'UnnamedField','OnePattern','PathPattern','Plain'}))+'}\n',text,count=1)
-    open(f'{CRATE}/specs/Covered.antt','w').write(wrapped(text))
-    by={}
-    for k in covered: by.setdefault(stepof[k][1],[]).append(stepof[k][0])
-    out='-- The steps of all covered kinds, and what is known of each. Written by tools/steps.py.\n'
-    out+='use Rattle.std.proofs.Common.{◌≡◌, refl}\nuse Rattle.std.specs.Prelude.{true, false}\n'
-    out+='use Rattle.syn_grammar.specs.Kind.{'+', '.join(['Kind']+names)+'}\nuse Rattle.syn_grammar.specs.Kept.{held}\nuse Rattle.syn_grammar.specs.Normal.{passed, place_of}\nuse Rattle.syn_grammar.specs.Table.{table}\n'
-    out+='use Rattle.grammar_back.specs.Covered.{has_step}\nuse Rattle.grammar_back.proofs.Readies.{Step}\nuse Rattle.grammar_back.proofs.Printed.{KindLaw, simple_kind}\n'
-    hs=dict.fromkeys(law[k] for k in covered if law[k])
-    for m in dict.fromkeys(homes[h] for h in hs): out+=f'use Rattle.grammar_back.proofs.{m}.{{{", ".join(h for h in hs if homes[h]==m)}}}\n'
-    for m,ws in by.items(): out+=f'use Rattle.grammar_back.proofs.{m}.{{{", ".join(ws)}}}\n'
-    out+='\npub steps : (k : Kind) → has_step k ≡ true → Step k\nunfolding has_step\n'
-    for k in covered: out+=f'steps {clause(k)} e = {stepof[k][0]}\n'
-    out+='steps _ e = let f : false ≡ true = e in cc f\n'
-    out+='\npub laws : (k : Kind) → has_step k ≡ true → KindLaw k\nunfolding has_step held passed place_of table\n'
-    for k in covered: out+=f'laws {clause(k)} e = '+(law[k] if law[k] else f'simple_kind {kshow(k)} refl (λ x. tt) (λ x. refl) (λ x. refl) (λ q. refl) (λ q. refl) refl')+'\n'
-    out+='laws _ e = let f : false ≡ true = e in cc f\n'
-    open(f'{CRATE}/proofs/AllKinds.antt','w').write(wrapped(out))
-    if '--missing' in sys.argv:
-        print('no law:',[kshow(k) for k in stepof if k not in covered]); print('no step:',[kshow(k) for c,k in KINDS if k not in stepof])
+        if k in laws: covered[k]=(step,laws[k])
+        elif not has_any(e,('star','repeated','judged','dropped')) and k[0] not in FORGET|TIDY: covered[k]=(step,None)
+        else: no_law.append(k)
+    if '--missing' in sys.argv: print('no law:',[kshow(k) for k in no_law]); print('no step:',[kshow(k) for k in no_step])
+    return covered
+
+def put_covered(covered):
+    """`has_step` in specs/Covered, and proofs/AllKinds: the steps of all covered kinds, and what is known of each."""
+    block='\n'.join(['unfoldable pub has_step : Kind → Bool',*(f'has_step {clause(k)} = true' for k in covered),'has_step k = false'])
+    kinds=['Kind',*sorted({w for k in covered for w in k})]
+    put(f'{CRATE}/specs/Covered.antt',[block],{G+'Kind':kinds},keeps=lambda name: True)
+    simple='refl (λ x. tt) (λ x. refl) (λ x. refl) (λ q. refl) (λ q. refl) refl'
+    steps=['pub steps : (k : Kind) → has_step k ≡ true → Step k','unfolding has_step',
+     *(f'steps {clause(k)} e = {step[0]}' for k,(step,law) in covered.items()),'steps _ e = let f : false ≡ true = e in cc f']
+    laws=['pub laws : (k : Kind) → has_step k ≡ true → KindLaw k','unfolding has_step held passed place_of table',
+     *(f'laws {clause(k)} e = '+(law[0] if law else f'simple_kind {kshow(k)} {simple}') for k,(step,law) in covered.items()),
+     'laws _ e = let f : false ≡ true = e in cc f']
+    wanted={G+'Kind':kinds}
+    for it in [law for step,law in covered.values() if law]+[step for step,law in covered.values()]:
+        wanted.setdefault('Rattle.grammar_back.proofs.'+it[1],[]).append(it[0])
+    put(f'{CRATE}/proofs/AllKinds.antt',['\n'.join(steps),'\n'.join(laws)],wanted)
+
+def put_keywords():
+    """proofs/Keywords: of the words that proofs name whether they are reserved."""
     for f in sorted(os.listdir(f'{CRATE}/proofs')):
         if f.endswith('.antt') and f!='Keywords.antt':
             for w in re.findall(r'\b(?:reserved|free)_([a-z_]+)\b',open(f'{CRATE}/proofs/{f}').read()):
                 w={'underscore':'_','big_self':'Self'}.get(w,w)
                 if w!='not': reserved(w)
-    text="-- Words that are reserved, and some that aren't. Written by tools/steps.py.\nuse Rattle.std.specs.Prelude.{◌≡◌, refl, true, false, codes}\nuse Rattle.syn_grammar.specs.Words.{is_reserved}\n"
-    for w,n in sorted(KEYWORDS.items(),key=lambda x:x[1]):
-        text+=f'\npub {n} : is_reserved (codes "{w}") ≡ {"true" if w in RESERVED else "false"}\nunfolding is_reserved\n{n} = refl\n'
-    open(f'{CRATE}/proofs/Keywords.antt','w').write(wrapped(text))
-    return good,bad
+    put(f'{CRATE}/proofs/Keywords.antt',[f'pub {n} : is_reserved (codes "{w}") ≡ {"true" if w in RESERVED else "false"}\nunfolding is_reserved\n{n} = refl'
+     for w,n in sorted(KEYWORDS.items(),key=lambda x:x[1])])
+
+G='Rattle.syn_grammar.specs.'
+def write():
+    good,bad=main()
+    kinds=[*GIVEN,*(k for c,k in KINDS)]
+    put_behind(kinds)
+    put_starts(kinds)
+    put_steps(good)
+    put_covered(covered_kinds(good))
+    put_keywords()
 if __name__=='__main__':
     if '--list' in sys.argv: main()
     else: write()

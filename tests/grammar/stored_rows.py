@@ -2,8 +2,8 @@
 """Writes the stored texts as rows of crates/canon_rows (whole files) and crates/syn_rows (forms of other kinds), each
 with its stored answer.
 
-  rows.py            writes them behind the other rows of stdin and stdout
-  rows.py --check    sees whether they stand there already
+  stored_rows.py            writes them into stdin and stdout, behind their heading and as far as the next one
+  stored_rows.py --check    sees whether they stand there already
 """
 import glob
 import os
@@ -13,8 +13,8 @@ sys.dont_write_bytecode = True
 from run import HERE, stored, wanted_of
 
 CRATES = os.path.join(HERE, '..', '..', 'crates')
-FILES = '# The stored texts of tests/grammar that are whole files (rows.py there writes these rows).\n'
-FORMS = '# The stored texts of tests/grammar that are forms of other kinds (rows.py there writes these rows).\n'
+FILES = '# The stored texts of tests/grammar that are whole files (stored_rows.py there writes these rows).\n'
+FORMS = '# The stored texts of tests/grammar that are forms of other kinds (stored_rows.py there writes these rows).\n'
 
 # Asked elsewhere: names of files, and expressions that are built by hand.
 OTHERS = ('outline', 'built')
@@ -49,19 +49,32 @@ def rows(passes, answer):
     return [f'{question}\n' for question in asked], [f'{question} = {asked[question]}\n' for question in asked]
 
 
+def section(text, head):
+    """What stands in front of the heading, and what stands behind its rows: from the next heading on."""
+    front, found, rest = text.partition(head)
+    if not found:
+        sys.exit(f'the heading is missing: {head}')
+    next_heading = rest.find('\n# ')
+    return front, '' if next_heading < 0 else rest[next_heading + 1:]
+
+
 def put(crate, head, lists, is_check):
-    """Writes rows behind those that stand in a crate above the heading, or sees whether they stand there."""
+    """Writes rows behind their heading in a crate, or sees whether they stand there. Rows of other headings stay."""
     off = 0
     for name, lines in zip(('stdin', 'stdout'), lists):
         path = os.path.join(CRATES, crate, name)
-        old = open(path, encoding='utf8').read()
-        own = old.partition(head)[0].rstrip('\n')
-        new = (own + '\n\n' if own else '') + head + ''.join(lines)
-        if not is_check:
-            open(path, 'w', encoding='utf8').write(new)
-        elif old != new:
+        with open(path, encoding='utf8') as file:
+            old = file.read()
+        front, behind = section(old, head)
+        new = front + head + ''.join(lines) + behind
+        if old == new:
+            continue
+        if is_check:
             print(f'{path} has other rows')
             off = 1
+        else:
+            with open(path, 'w', encoding='utf8') as file:
+                file.write(new)
     return off
 
 
@@ -69,7 +82,7 @@ def main(args):
     is_check = args[:1] == ['--check']
     files = rows(lambda kind: kind == 'file', file_answer)
     forms = rows(lambda kind: kind != 'file' and kind not in OTHERS, form_answer)
-    return put('canon_rows', FILES, files, is_check) or put('syn_rows', FORMS, forms, is_check)
+    return max(put('canon_rows', FILES, files, is_check), put('syn_rows', FORMS, forms, is_check))
 
 
 if __name__ == '__main__':
