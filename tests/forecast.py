@@ -141,4 +141,5 @@ def main():
     print(f"{sum(it[3] for it in made.values())} s in all; {minutes:.0f} minutes on {processors} processors, {memory} GB")
 
 
-main()
+if __name__ == "__main__":
+    main()

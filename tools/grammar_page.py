@@ -1,7 +1,7 @@
 #!/usr/bin/env python3
 """Writes docs/GRAMMAR.md: the grammar as one page. The entries, with the rules in words above them, are those of
 crates/syn_grammar/specs, as they are written; the text between them is that of grammar_page.md beside this script, in
-which a line {{entries FILE}}, {{forms}} or {{levels}} stands for what is taken from there.
+which a line {{entries FILE}}, {{forms}}, {{levels}} or {{keywords}} stands for what is taken from there.
 
 Usage: tools/grammar_page.py"""
 import os
@@ -488,6 +488,13 @@ def shown_levels():
     return '\n'.join([*out, '| 16 | all others | |'])
 
 
+def shown_keywords():
+    """The keywords, a line for as many as it has room for."""
+    text = next(it for it in definitions('Words') if it.name == 'reserved').clauses[0][1]
+    words = ' '.join(it for it in codes(Reader(text).term()) if it != '_')
+    return '\n'.join(['```', *(line.strip() for line in broken(words, 0)), '```'])
+
+
 def cell(text):
     """Code in a cell of a table, whose bars are escaped."""
     return '`' + text.replace('|', '\\|') + '`'
@@ -500,6 +507,7 @@ def main():
     text = re.sub(r'^\{\{entries (\w+)\}\}$', lambda it: entries(it[1], kinds, inline), text, flags=re.M)
     text = re.sub(r'^\{\{forms\}\}$', lambda it: shown_forms(), text, flags=re.M)
     text = re.sub(r'^\{\{levels\}\}$', lambda it: shown_levels(), text, flags=re.M)
+    text = re.sub(r'^\{\{keywords\}\}$', lambda it: shown_keywords(), text, flags=re.M)
     with open(f'{TOP}/docs/GRAMMAR.md', 'w', encoding='utf8') as file:
         file.write(text)
 

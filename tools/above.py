@@ -1,0 +1,31 @@
+#!/usr/bin/env python3
+"""What is proved again where some crates change: they and all crates above them, with the seconds of a processor that their
+checks and edits take by the table of docs/maintainers/GATE.md.
+
+Usage: tools/above.py [--list] NAME.., of crates.txt. After a change of words in a `//!` comment that crate alone is proved
+again."""
+import os
+import sys
+
+sys.dont_write_bytecode = True
+sys.path.insert(0, os.path.join(os.path.dirname(os.path.abspath(__file__)), '..', 'tests'))
+from forecast import all_below, crates, seconds
+
+
+def main(arguments):
+    is_listed = arguments[:1] == ['--list']
+    changed = set(arguments[is_listed:])
+    named, took = crates(), seconds()
+    unknown = changed - named.keys()
+    if unknown or not changed:
+        sys.exit(f'no such crate: {", ".join(sorted(unknown))}' if unknown else __doc__)
+    below = all_below(named)
+    again = [name for name in named if name in changed or below[name] & changed]
+    if is_listed:
+        print('\n'.join(again))
+    checks, edits = (sum(took[name][part] for name in again if name in took) for part in (0, 2))
+    print(f'{len(again)} of {len(named)} crates, {checks} s of checks, {edits} s of edits')
+
+
+if __name__ == '__main__':
+    main(sys.argv[1:])
