@@ -1,7 +1,7 @@
 """Files of definitions and lemmas that a script writes in part: what is new is put in, and all else stays as it stands.
 
-A file is its head (comments and `use` lines) and blocks behind it, with blank lines between them. A block is the comment
-above a definition and its lines, and goes by the definition's name. A block that says the same as the one that stands
+A file is its head (comments and `use` lines) and blocks behind it, with blank lines between them. A block is the
+comment above a definition and its lines, and goes by the definition's name. A block that says the same as the one that stands
 there, but for how its lines are broken, is left alone: so a tree that is as generated stays as it is, whatever laid it
 out. Imports change only where a block did: those that nothing names any more go, and those that are missing come."""
 import re

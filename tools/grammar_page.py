@@ -6,10 +6,13 @@ which a line {{entries FILE}}, {{forms}}, {{levels}} or {{keywords}} stands for 
 Usage: tools/grammar_page.py"""
 import os
 import re
+import sys
+
+sys.dont_write_bytecode = True
+from entries import definitions, reserved, term as term_of  # noqa: E402
 
 HERE = os.path.dirname(os.path.abspath(__file__))
 TOP = os.path.dirname(HERE)
-SPECS = os.path.join(TOP, 'crates', 'syn_grammar', 'specs')
 WIDTH = 112
 DELIMITERS = {'Parenthesis': '()', 'Bracket': '[]', 'Brace': '{}'}
 # Words that pass a test, and what stands for them on the page.
@@ -17,96 +20,6 @@ WORDS = {'is_ident': 'Ident', 'is_plain_name': 'Name', 'is_path_keyword': "('sel
          'is_bool': "('true' | 'false')", 'is_name': 'AnyName', 'any_text': 'AnyWord'}
 LITERALS = {'any_text': 'Literal', 'is_string': 'String', 'is_number': 'Number', 'is_index': 'IndexNumber',
             'are_indices': 'Indices', 'ends_in_dot': 'NumberWithDot'}
-TOKEN = re.compile(r'"[^"]*"|[()▸∷∶\[\]]|[^\s()▸∷∶"\[\]]+')
-INFIX = {'▸': 20, '∶': 21, 'then': 30, 'or': 25, '∷': 15}
-
-
-class Reader:
-    """Reads a term: a string, or a word with its arguments, ('word', [..]); what is a function is ('λ', [])."""
-
-    def __init__(self, text):
-        self.tokens, self.at = TOKEN.findall(text), 0
-
-    def peek(self):
-        return self.tokens[self.at] if self.at < len(self.tokens) else None
-
-    def next(self):
-        self.at += 1
-        return self.tokens[self.at - 1]
-
-    def term(self, level=0):
-        if self.peek() == 'when':
-            self.next()
-            look = self.term()
-            assert self.next() == 'read'
-            first = self.term()
-            assert self.next() == 'else'
-            return ('when', [look, first, self.term()])
-        if self.peek() == 'λ':
-            return self.function()
-        left = self.application()
-        while INFIX.get(self.peek(), -1) >= level:
-            word = self.next()
-            left = (word, [left, self.term(INFIX[word])])
-        return left
-
-    def function(self):
-        depth, start = 0, self.at
-        while self.peek() is not None and not (self.peek() in (')', ']') and depth == 0):
-            depth += (self.peek() in '([') - (self.peek() in ')]')
-            self.next()
-        return ('λ', [' '.join(self.tokens[start:self.at])])
-
-    def application(self):
-        head, arguments = self.atom(), []
-        while self.peek() not in (None, ')', ']', 'read', 'else', 'when') and self.peek() not in INFIX:
-            arguments.append(self.atom())
-        return (head[0], head[1] + arguments) if arguments else head
-
-    def atom(self):
-        token = self.next()
-        if token == '(':
-            inner = self.term()
-            assert self.next() == ')', self.tokens[self.at - 4:self.at + 2]
-            return inner
-        if token == '[':
-            self.next()
-            return ('[]', [])
-        return token[1:-1] if token.startswith('"') else (token, [])
-
-
-class Definition:
-    """A definition: its name, its type, the words above it, and its clauses, each with what it takes and its term."""
-
-    def __init__(self, name, type_, words):
-        self.name, self.type, self.words, self.clauses = name, type_, words, []
-
-
-def definitions(file):
-    """The definitions of a file, in their order. Words that stand above none are a title: a definition without a name."""
-    found, words, current = [], [], None
-    with open(f'{SPECS}/{file}.antt', encoding='utf8') as lines:
-        text = lines.read()
-        for line in [*text[text.index('\nuse '):].split('\n'), '']:
-            signature = re.match(r"(?:abbrev|unfoldable) pub ([\w']+) : (.*)", line)
-            clause = re.match(r"([a-z_]\w*'?)((?: [\w']+| \([^)]*\))*) =(?: (.*))?$", line)
-            if line.startswith('--'):
-                words.append(line[2:].strip())
-            elif line.startswith('pub data'):
-                words = []
-            elif signature:
-                current = Definition(signature[1], signature[2], ' '.join(words))
-                found.append(current)
-                words = []
-            elif clause and current and clause[1] == current.name:
-                current.clauses.append([re.findall(r'\([^)]*\)|\S+', clause[2]), clause[3] or ''])
-            elif current and current.clauses and line.startswith(' '):
-                current.clauses[-1][1] += ' ' + line.strip()
-            elif not line and words:
-                found.append(Definition(None, '', ' '.join(words)))
-                words = []
-    return found
-
 
 FILES = 'Paths Types Patterns Attributes Generics Items Lists Expressions Statements Forms'.split()
 DEFINED = {file: definitions(file) for file in FILES}
@@ -135,7 +48,7 @@ def shown_kind(words):
 def codes(term):
     """The texts of a list of texts."""
     if isinstance(term, tuple) and term[0] in LISTS:
-        term = Reader(LISTS[term[0]]).term()
+        term = term_of(LISTS[term[0]])
     found = []
     while term[0] == '∷':
         found.append(term[1][0][1][0])
@@ -233,7 +146,7 @@ def first(term):
     if word == 'ref':
         return 'a kind'
     if word in ENTRIES and not arguments:
-        return first(Reader(ENTRIES[word]).term())
+        return first(term_of(ENTRIES[word]))
     if word in ('in_parentheses', 'in_brackets', 'in_braces'):
         return quoted({'in_parentheses': '(', 'in_brackets': '[', 'in_braces': '{'}[word])
     if word in ('one_word', 'one_sign'):
@@ -313,7 +226,8 @@ class Page:
         if word == 'many':
             (sees, of), separator, element = arguments
             end = look(of[0])
-            return self.many(element, {'comma': ',', 'plus': '+'}[separator[0]], end if sees == 'sees' else f'while {end}')
+            sign = {'comma': ',', 'plus': '+'}[separator[0]]
+            return self.many(element, sign, end if sees == 'sees' else f'while {end}')
         if word in ('in_parentheses', 'in_brackets', 'in_braces'):
             opening, closing = {'in_parentheses': '()', 'in_brackets': '[]', 'in_braces': '{}'}[word]
             return f"'{opening}' {self.entry(arguments[0])} '{closing}'"
@@ -361,7 +275,8 @@ def parts(term):
 
 def rows(page, choice):
     """The alternatives of a choice, a line each, with their looks in front."""
-    tested = [('' if test is None else '&' + grouped(look(test)), page.entry(inner) or 'nothing') for test, inner in choice]
+    tested = [('' if test is None else '&' + grouped(look(test)), page.entry(inner) or 'nothing')
+              for test, inner in choice]
     width = min(max(len(test) for test, _ in tested), 40)
     return [line for number, (test, text) in enumerate(tested)
             for line in broken(f'  {"|" if number else " "} {test:{width}} {text}'.rstrip(), 6)]
@@ -411,12 +326,12 @@ def operands(own, kind, forms):
 
 
 def forms():
-    """The forms of expressions that begin with tokens of their own, with their looks; those behind an operand; the levels;
-    those that may lack the operand behind them."""
+    """The forms of expressions that begin with tokens of their own, with their looks; those behind an operand; the
+    levels; those that may lack the operand behind them."""
     by = {it.name: it for it in DEFINED['Forms']}
 
     def cases(name):
-        term, found = Reader(by[name].clauses[0][1]).term(), []
+        term, found = term_of(by[name].clauses[0][1]), []
         while term[0] == '∷':
             found.append((term[1][0][1][0][0], look(term[1][0][1][1])))
             term = term[1][1]
@@ -442,11 +357,11 @@ def entries(file, kinds, inline):
             if it.type.endswith('Look'):
                 arguments = [re.sub(r"[()]", '', each) for each in pattern]
                 name = it.name if not arguments else f'{it.name}<{", ".join(arguments)}>'
-                lines += broken(f'{name} := {look(Reader(text).term())}', 4)
+                lines += broken(f'{name} := {look(term_of(text))}', 4)
                 continue
             kind = kinds.get(it.name)
             name = kind if kind and not pattern else shown_kind([(kind or it.name).split('<')[0], *pattern])
-            term = Reader(text).term()
+            term = term_of(text)
             if file == 'Expressions' and kind and kind.startswith('Expr') and kind != 'Expression<p>':
                 lines += broken(f'{name} = {operands(page.entry(term), kind, names)}', 4)
             else:
@@ -457,7 +372,7 @@ def entries(file, kinds, inline):
     if file == 'Lists':
         out += ['', '// Items to the end, and one kind of item by itself.']
         for kind, text in inline:
-            out += production(page, kind, Reader(text).term())[0]
+            out += production(page, kind, term_of(text))[0]
     if file == 'Expressions':
         out += ['', 'ExprLit = Lit']
     return '\n'.join(['```', *out[1:], '```'])
@@ -489,9 +404,8 @@ def shown_levels():
 
 
 def shown_keywords():
-    """The keywords, a line for as many as it has room for."""
-    text = next(it for it in definitions('Words') if it.name == 'reserved').clauses[0][1]
-    words = ' '.join(it for it in codes(Reader(text).term()) if it != '_')
+    """The keywords, as many a line as it has room for."""
+    words = ' '.join(it for it in reserved() if it != '_')
     return '\n'.join(['```', *(line.strip() for line in broken(words, 0)), '```'])
 
 

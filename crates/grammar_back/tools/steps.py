@@ -12,70 +12,25 @@ nothing rests on this script.
 import re,sys,os
 sys.dont_write_bytecode=True
 HERE=os.path.dirname(os.path.abspath(__file__)); CRATE=os.path.dirname(HERE)
-SPECS=os.path.join(os.path.dirname(CRATE),'syn_grammar','specs')
 sys.path.insert(0,os.path.join(HERE,'..','..','..','tools'))
 from antt_files import put
+import entries
 FILES="Look Say Paths Types Patterns Attributes Generics Items Lists Forms Expressions Statements Table".split()
-PARAMS={'Style':['InModule','InExpression','InType','AtType'],'Plus':['WithPlus','WithoutPlus'],
- 'Position':['Plain','InCondition','InArm','InStatement'],'Place':['InFile','InForeign','InTrait','InImpl']}
+PARAMS=entries.parameters()[0]
 CONS={c for v in PARAMS.values() for c in v}
-RESERVED=set()
-WORDS=open(f'{SPECS}/Words.antt').read()
-RESERVED=set(re.findall(r'codes "([^"]*)"',WORDS[WORDS.index('reserved ='):WORDS.index('unfoldable pub is_reserved')]))
+RESERVED=set(entries.reserved())
 
-def toks(s): return re.findall(r'"[^"]*"|[()▸∷∶\[\]]|λ|[^\s()▸∷∶"\[\]]+',s)
+# each definition's clauses, and the file that it stands in; of two of one name the later one, which is an entry's
 defs={}; home={}
 for f in FILES:
-    cur=None
-    for line in re.sub(r'--.*','',open(f'{SPECS}/{f}.antt').read()).split('\n'):
-        if re.match(r'(abbrev|unfoldable|use|infix|infixr|infixl|unfolding|pub)\b',line): cur=None; continue
-        if not line.strip(): continue
-        m=re.match(r"^([a-z_']+)((?: [A-Za-z_']+| \([^)]*\))*) = ?(.*)$",line) if not line.startswith(' ') else None
-        if m:
-            pats=re.findall(r"\([^)]*\)|\S+",m[2]); cur=[m[3]]
-            if home.get(m[1],f)!=f: defs.pop(m[1]) # another of that name: the later one, an entry's
-            defs.setdefault(m[1],[]).append((pats,cur)); home[m[1]]=f
-        elif cur is not None: cur.append(line)
+    for it in entries.definitions(f):
+        if it.name: defs[it.name],home[it.name]=it.clauses,f
 
-class P:
-    """a small reader of terms: application, the infix words, when read else"""
-    INF={'▸':20,'∶':21,'then':30,'or':25,'∷':15}
-    def __init__(s,t): s.t=t; s.i=0
-    def peek(s): return s.t[s.i] if s.i<len(s.t) else None
-    def next(s): s.i+=1; return s.t[s.i-1]
-    def expr(s,level=0):
-        if s.peek()=='when':
-            s.next(); l=s.expr(); assert s.next()=='read'; a=s.expr(); assert s.next()=='else',s.t[s.i-3:s.i+3]; b=s.expr()
-            return ('app','when',[l,a,b])
-        if s.peek()=='λ':
-            d=0; out=[]
-            while s.peek() is not None:
-                x=s.peek()
-                if x in('(','['): d+=1
-                if x in(')',']'):
-                    if d==0: break
-                    d-=1
-                out.append(s.next())
-            return ('lam',' '.join(out))
-        a=s.app()
-        while s.peek() in s.INF and s.INF[s.peek()]>=level:
-            o=s.next(); b=s.expr(s.INF[o]); a=('app',o,[a,b])
-        return a
-    def app(s):
-        h=s.atom(); args=[]
-        while s.peek() not in (None,')',']','read','else','when') and s.peek() not in s.INF: args.append(s.atom())
-        if not args: return h
-        assert h[0]=='app' and not h[2],(h,args,s.t[max(0,s.i-9):s.i+3])
-        return ('app',h[1],args)
-    def atom(s):
-        x=s.next()
-        if x=='(':
-            e=s.expr(); assert s.next()==')',s.t[max(0,s.i-6):s.i+3]; return e
-        if x=='[': assert s.next()==']'; return ('app','[]',[])
-        if x.startswith('"'): return ('str',x[1:-1])
-        return ('app',x,[])
-def parse(lines): 
-    p=P(toks(' '.join(lines))); e=p.expr(); assert p.peek() is None,(p.t[p.i:],lines); return e
+def made(e):
+    """a term as this script has it: ('str', text), ('lam', text) or ('app', word, arguments)"""
+    if isinstance(e,str): return ('str',e)
+    return ('lam',e[1][0]) if e[0]=='λ' else ('app',e[0],[made(a) for a in e[1]])
+def parse(text): return made(entries.term(text))
 def subst(e,env):
     if e[0]=='app':
         if not e[2] and e[1] in env: return env[e[1]]
@@ -83,7 +38,7 @@ def subst(e,env):
     return e
 def call(name,args):
     """the body of a definition, its parameters put in; None if no clause matches"""
-    for pats,lines in defs[name]:
+    for pats,text in defs[name]:
         env={}; ok=len(pats)<=len(args)
         for p,a in zip(pats,args):
             if p[0]=='(' or p[0].isupper():
@@ -92,7 +47,7 @@ def call(name,args):
                 for w,b in zip(ws[1:],a[2]): env[w]=b
             elif p!='_': env[p]=a
         if ok:
-            e=subst(parse(lines),env)
+            e=subst(parse(text),env)
             rest=args[len(pats):]
             return ('app',e[1],e[2]+list(rest)) if rest else e
     return None
@@ -452,9 +407,9 @@ for cat,names in CATEGORIES.items():
     for n in names:
         ws=n.split()
         for v in (PARAMS[ws[1]] if len(ws)>1 else [None]): KINDS.append((cat,(ws[0],)+((v,) if v else ())))
-RANKS=open(f'{SPECS}/Ranks.antt').read()
+RANKS=open(f'{entries.SPECS}/Ranks.antt').read()
 SKIPS=set(re.findall(r'^skips \(?([A-Z][A-Za-z]*)',RANKS,re.M))
-def look_of(text): return parse([text])
+def look_of(text): return parse(text)
 # what may follow, where it isn't read off the entry
 GIVEN={('Expression','Plain'):['no (the_end or marks "," or marks ";" or marks "=>")'],('Expression','InCondition'):['no brace'],
  ('Expression','InArm'):['no (the_end or marks ",")'],('Expression','InStatement'):['no (the_end or marks ";")']}
