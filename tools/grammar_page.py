@@ -375,6 +375,8 @@ def entries(file, kinds, inline):
             out += production(page, kind, term_of(text))[0]
     if file == 'Expressions':
         out += ['', 'ExprLit = Lit']
+    while out[-1] == '' or out[-1].startswith('//'):
+        out.pop()
     return '\n'.join(['```', *out[1:], '```'])
 
 
