@@ -1,9 +1,10 @@
 """Files of definitions and lemmas that a script writes in part: what is new is put in, and all else stays as it stands.
 
 A file is its head (comments and `use` lines) and blocks behind it, with blank lines between them. A block is the
-comment above a definition and its lines, and goes by the definition's name. A block that says the same as the one that stands
-there, but for how its lines are broken, is left alone: so a tree that is as generated stays as it is, whatever laid it
-out. Imports change only where a block did: those that nothing names any more go, and those that are missing come."""
+comment above a definition and its lines, and goes by the definition's name. A block that says the same as the one that
+stands there, but for how its lines are broken, is left alone. So is each clause of a block. So a tree that is as
+generated stays as it is, whatever laid it out. Imports change only where a block did: those that nothing names any more
+go, and those that are missing come."""
 import re
 
 WIDTH = 118
@@ -40,6 +41,24 @@ def same(old, new):
     return said(old) == said(new)
 
 
+def renewed(old, new):
+    """A block that says something new, with the lines of the old one where they say the same, and its comment."""
+    standing = {said(it): it for it in clauses(old)}
+    comment = [line for line in old.split('\n') if line.startswith('--')]
+    return '\n'.join([*comment, *(standing.get(said(it)) or broken(it) for it in clauses(new))])
+
+
+def clauses(block):
+    """The lines of a block that begin at the left, each with those that go on with it; no comment."""
+    found = []
+    for line in block.split('\n'):
+        if line.startswith(' ') and found:
+            found[-1] += '\n' + line
+        elif not line.startswith('--'):
+            found.append(line)
+    return found
+
+
 def broken(text):
     """No line longer than the width: broken at spaces, where the fewest parentheses are open, the last of these."""
     out = []
@@ -61,17 +80,15 @@ def broken(text):
 
 
 def is_named(name, body):
-    """Whether a body names what is imported. An operator's name is its sign between rings."""
-    if name.startswith('◌') or name.endswith('◌'):
-        return all(part in body for part in name.split('◌') if part)
-    if re.match(r'\w', name):
-        return bool(re.search(rf"(?<![\w'.]){re.escape(name)}(?![\w'])", body))
-    return name in body
+    """Whether a body names what is imported. An operator's name is its signs, with rings where its operands stand."""
+    return all(re.search(rf"(?<![\w'.]){re.escape(part)}(?![\w'])", body) if part[0].isalnum() else part in body
+               for part in name.split('◌') if part)
 
 
 def imports(lines, wanted, body):
     """The `use` lines of a head: those that stand there without what nothing names, and behind them what is missing of
     the names that are wanted of each module, or of a module under another name."""
+    body = re.sub(r'^\s*--.*|"[^"]*"', '', body, flags=re.M)
     found, named = [], set()
     for line in lines:
         use = USE.match(line)
@@ -110,9 +127,7 @@ def merged(old, blocks, wanted, keeps):
             out.insert(names.index(before) + 1 if before else 0, broken(block))
             is_changed = True
         elif not same(standing[name], block):
-            comment = [line for line in standing[name].split('\n') if line.startswith('--')]
-            code = [line for line in block.split('\n') if not line.startswith('--')]
-            out[names.index(name)] = broken('\n'.join(comment + code))
+            out[names.index(name)] = renewed(standing[name], block)
             is_changed = True
         before = name
     if not is_changed:

@@ -1,6 +1,6 @@
 #!/usr/bin/env python3
-"""Writes docs/TYPES.md: the types of the syntax tree with their fields, of the sources of the crates that have them, with
-the words above each. Lifetimes are left out.
+"""Writes docs/TYPES.md: the types of the syntax tree with their fields, of the sources of the crates that have them,
+with the words above each. Lifetimes are left out.
 
 Usage: tools/types_page.py"""
 import glob
