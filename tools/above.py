@@ -12,19 +12,24 @@ sys.path.insert(0, os.path.join(os.path.dirname(os.path.abspath(__file__)), '..'
 from forecast import all_below, crates, seconds
 
 
+def proved_again(changed):
+    """The crates that are proved again where some change, with the seconds of their checks and of their edits."""
+    named, took = crates(), seconds()
+    below = all_below(named)
+    again = [name for name in named if name in changed or below[name] & changed]
+    return again, *(sum(took[name][part] for name in again if name in took) for part in (0, 2))
+
+
 def main(arguments):
     is_listed = arguments[:1] == ['--list']
     changed = set(arguments[is_listed:])
-    named, took = crates(), seconds()
-    unknown = changed - named.keys()
+    unknown = changed - crates().keys()
     if unknown or not changed:
         sys.exit(f'no such crate: {", ".join(sorted(unknown))}' if unknown else __doc__)
-    below = all_below(named)
-    again = [name for name in named if name in changed or below[name] & changed]
+    again, checks, edits = proved_again(changed)
     if is_listed:
         print('\n'.join(again))
-    checks, edits = (sum(took[name][part] for name in again if name in took) for part in (0, 2))
-    print(f'{len(again)} of {len(named)} crates, {checks} s of checks, {edits} s of edits')
+    print(f'{len(again)} of {len(crates())} crates, {checks:,} s of checks, {edits:,} s of edits')
 
 
 if __name__ == '__main__':
