@@ -2,21 +2,21 @@
 """Runs `canon` on real files, as one who uses it would. No part of the gate; docs/CORPUS.md says what came of it.
 
   tests/corpus.py CANON [PLACE..]           CANON is the built program, a PLACE a folder or a file; without one they are
-                                            Debian's rust-src, and behind it cargo's registry of Debian with the crates of
-                                            docs/CORPUS.md, whose packages are fetched
-  tests/corpus.py --peer CANON [PLACE..]    asks a peer too: corpus_peer.rs over syn and proc-macro2 of Debian's packages,
-                                            which is built with plain rustc, and not kept
+                                            Debian's rust-src, and behind it cargo's registry of Debian with the
+                                            crates of docs/CORPUS.md, whose packages are fetched
+  tests/corpus.py --peer CANON [PLACE..]    asks a peer too: corpus_peer.rs over syn and proc-macro2 of Debian's
+                                            packages, which is built with plain rustc, and not kept
   --jobs N                                  files at once (2)
   --seconds N                               what a run may take (60)
   --all                                     lists each refusal and each difference, and not only those that need a look
 
-Of each `.rs` file in the folders: is it accepted; if so, is its output accepted and its own output; if not, by which form.
-That is guessed from the text at the fault's place, and `other` is what no guess fits. A run that ends by a signal, or takes
-too long, is listed by itself.
+Of each `.rs` file in the folders: is it accepted; if so, is its output accepted and its own output; if not, by which
+form. That is guessed from the text at the fault's place, and `other` is what no guess fits. A run that ends by a
+signal, or takes too long, is listed by itself.
 
-Where both accept, the tokens of the peer's tree of the text are compared with those of canon's output, and each difference is
-given to the departure that it looks like. Likewise the tokens of each accepted text with those of its output, all lexed by the
-peer: what differs there is what normal form does.
+Where both accept, the tokens of the peer's tree of the text are compared with those of canon's output, and each
+difference is given to the departure that it looks like. Likewise the tokens of each accepted text with those of its
+output, all lexed by the peer: what differs there is what normal form does.
 """
 import argparse
 import collections
@@ -36,14 +36,14 @@ from shapes import REGISTRY, fetch
 Case = collections.namedtuple('Case', 'name outcome fault own peer differences changes lines')
 
 # The packages whose crates, and those that they need, docs/CORPUS.md tells of.
-CRATES = ('serde serde-json regex regex-syntax libc rand syn quote proc-macro2 clap hashbrown indexmap itertools log memchr tokio '
-          'futures-util bitflags chrono num-traits').split()
+CRATES = ('serde serde-json regex regex-syntax libc rand syn quote proc-macro2 clap hashbrown indexmap itertools log '
+          'memchr tokio futures-util bitflags chrono num-traits').split()
 
 
 # Runs.
 
 def run(command, text, seconds):
-    """The status (None if it took too long, negative by a signal), standard output and the first line of standard error."""
+    """The status (None if it took too long, negative by a signal), standard output, a first line of standard error."""
     try:
         done = subprocess.run(command, input=text, capture_output=True, timeout=seconds)
     except subprocess.TimeoutExpired:
@@ -124,7 +124,7 @@ def code_of(text):
 
 
 def code_of_front(text):
-    """The same of a text whose first line may be a shebang: its marks stay, and what is behind them is without comments."""
+    """The same of a text whose first line may be a shebang: its marks stay, and behind them comments are left out."""
     return '#!' + re.sub(r'//[^\n]*', ' ', re.sub(r'(?s)/\*.*?\*/', ' ', text[2:400]))
 
 
@@ -229,7 +229,8 @@ def form_of(message, before, behind):
 
 def refused_item(first):
     """The form of the item that a text begins with, where it is read and then refused."""
-    head = re.match(r'(pub(?:\s*\([^()]*\))?\s+)?(?:default\s+)?(?:unsafe\s+)?(?:(impl)\b|extern\b|[\w:]+\s*!)([^{;]*)', first)
+    head = re.match(r'(pub(?:\s*\([^()]*\))?\s+)?(?:default\s+)?(?:unsafe\s+)?(?:(impl)\b|extern\b|[\w:]+\s*!)([^{;]*)',
+                    first)
     if not head:
         return None
     if head[1]:

@@ -1,8 +1,9 @@
 #!/usr/bin/env python3
-"""Writes the text that the gate gives to crates/canon_cli, and the output that is wanted of it: parentheses, blocks, closures
-and type arguments that stand 200 deep in one another, and 10,000 statements, arms, `else if`, operators and method calls behind
-one another. Both are put together by the same shapes, the text without the spaces that it needs not, and the output by the rule
-of printing: one space between tokens, none behind an opening parenthesis or bracket and before a closing one.
+"""Writes the text that the gate gives to crates/canon_cli, and the output that is wanted of it: parentheses, blocks,
+closures and type arguments that stand 200 deep in one another, and 10,000 statements, arms, `else if`, operators and
+method calls behind one another. Both are put together by the same shapes, the text without the spaces that it needs
+not, and the output by the rule of printing: one space between tokens, none behind an opening parenthesis or bracket
+and before a closing one.
 
 Usage: tests/deep.py"""
 
@@ -19,7 +20,8 @@ SHAPES = [
     ("type D=" + "A<" * DEEP + "u8" + ">" * DEEP + ";", "type D = " + "A < " * DEEP + "u8" + " >" * DEEP + " ;"),
     ("fn e(){" + "a;" * LONG + "}", "fn e () { " + "a ; " * LONG + "}"),
     ("fn f(){match a{" + "1=>b," * LONG + "}}", "fn f () { match a { " + "1 => b , " * LONG + "} }"),
-    ("fn g(){if a{}" + "else if a{}" * LONG + "else{}}", "fn g () { if a { } " + "else if a { } " * LONG + "else { } }"),
+    ("fn g(){if a{}" + "else if a{}" * LONG + "else{}}",
+     "fn g () { if a { } " + "else if a { } " * LONG + "else { } }"),
     ("fn h(){a" + "+a" * LONG + "}", "fn h () { a" + " + a" * LONG + " }"),
     ("fn i(){a" + ".b()" * LONG + "}", "fn i () { a" + " . b ()" * LONG + " }"),
 ]

@@ -1,7 +1,7 @@
 #!/usr/bin/env python3
 """Sees that the pages hold together: lines of at most 120 characters; links to pages and to headings that are there;
-files and folders of the repository that are there where a page names them; each crate in the pages that list all, and no
-other; and what is proved again as tools/above.py has it.
+files and folders of the repository that are there where a page names them; and each crate in the pages that list all,
+and no other.
 
 Usage: tests/docs.py. It prints what is amiss, and ends with status 1 if something is."""
 import os
@@ -11,8 +11,6 @@ import sys
 
 sys.dont_write_bytecode = True
 TOP = os.path.dirname(os.path.dirname(os.path.abspath(__file__)))
-sys.path.insert(0, os.path.join(TOP, 'tools'))
-from above import proved_again  # noqa: E402
 
 NAMED = re.compile(r'(?<![\w/.(\[-])((?:bench|crates|docs|tests|tools)/[\w./-]*\w)')
 # What a page names and no checkout has: what is built, and what a reader is to make.
@@ -83,18 +81,8 @@ def other_crates():
                 yield f'{page}: no such crate: {name}'
 
 
-def other_figures():
-    """Lines of what is proved again that say something else than the table of the gate."""
-    text = read('docs/maintainers/MAINTAINING.md')
-    for line, changed in re.findall(r'^(\| ((?:`\w+`(?: and )?)+) \|.*)$', text, re.M):
-        again, checks, edits = proved_again(set(re.findall(r'\w+', changed.replace(' and ', ' '))))
-        wanted = f'| {changed} | {len(again)} | {checks:,} s | {edits:,} s |'
-        if line != wanted:
-            yield f'docs/maintainers/MAINTAINING.md: {line}, and it is {wanted}'
-
-
 def main():
-    amiss = [*other_crates(), *other_figures()]
+    amiss = [*other_crates()]
     for page in pages():
         text = read(page)
         for look in (long_lines, dead_links, missing_files):

@@ -1,16 +1,17 @@
 #!/usr/bin/env python3
-"""How long the gate takes, by the table of docs/maintainers/GATE.md: the order in which `rt ci` runs its checks, side by side as far as
-there are processors and memory, with the seconds that each took when it was measured.
+"""How long the gate takes, by the table of docs/maintainers/GATE.md: the order in which `rt ci` runs its checks, side
+by side as far as there are processors and memory, with the seconds that each took when it was measured.
 
 Usage: tests/forecast.py [PROCESSORS [GIGABYTES]], of which a machine of the project's shows 4 and 24.9.
 
-What `rt ci` goes by (kit 13f): a check waits for those of all crates below it, and so do the edits of a crate: one alone is
-tried from nothing, several over a second check of the crate. Of what is ready the first is what has the most lines of code
-behind it, along the longest chain; edits come behind all checks, and wait while one of these waits for memory. What is ready
-runs if a processor is idle, and if what all that runs is expected to need fits 85 % of the memory: 1 GB, 1 MB a line of the
-crate's code, 0.2 MB a line of its specs and proofs, 0.08 MB a line of code of the crates below it, and what it loads of the
-kit's libraries; an edit over a second check seven tenths of that. A check that nothing else waits beside takes idle processors
-too. The table's seconds are those of a busy processor, so this takes each check to have one.
+What `rt ci` goes by (kit 13f): a check waits for those of all crates below it, and so do the edits of a crate: one
+alone is tried from nothing, several over a second check of the crate. Of what is ready the first is what has the most
+lines of code behind it, along the longest chain; edits come behind all checks, and wait while one of these waits for
+memory. What is ready runs if a processor is idle, and if what all that runs is expected to need fits 85 % of the
+memory: 1 GB, 1 MB a line of the crate's code, 0.2 MB a line of its specs and proofs, 0.08 MB a line of code of the
+crates below it, and what it loads of the kit's libraries; an edit over a second check seven tenths of that. A check
+that nothing else waits beside takes idle processors too. The table's seconds are those of a busy processor, so this
+takes each check to have one.
 """
 import os
 import re
@@ -77,7 +78,8 @@ def tasks():
             print(f"{name}: not in the table of docs/maintainers/GATE.md, so taken as 60 s")
         check, count, edits = took.get(name, (60, 0, 0))
         kit = set().union(*(named[it][1] for it in {name, *below[name]}))
-        memory = 1 + code[name] / 1e3 + lines(name, ".antt") / 5e3 + sum(code[it] for it in below[name]) * 8e-5 + loaded(kit)
+        written = code[name] / 1e3 + lines(name, ".antt") / 5e3 + sum(code[it] for it in below[name]) * 8e-5
+        memory = 1 + written + loaded(kit)
         waits = {(it, "check") for it in below[name]}
         made[name, "check"] = (waits, code[name], memory, check)
         if count == 1:
@@ -85,8 +87,9 @@ def tasks():
         elif count:
             seed = min(check, edits / 2)
             made[name, "second check"] = (waits, 0, memory, seed)
+            edit = ({*waits, (name, "second check")}, code[name], 0.7 * memory, (edits - seed) / count)
             for number in range(count):
-                made[name, "edits", number] = ({*waits, (name, "second check")}, code[name], 0.7 * memory, (edits - seed) / count)
+                made[name, "edits", number] = edit
     return made
 
 
@@ -138,7 +141,8 @@ def main():
     minutes, order = forecast(made, processors, 0.85 * memory)
     for at, name, *what in order[-20:]:
         print(f"{at:6.1f} {name} {' '.join(map(str, what))}")
-    print(f"{sum(it[3] for it in made.values())} s in all; {minutes:.0f} minutes on {processors} processors, {memory} GB")
+    total = sum(it[3] for it in made.values())
+    print(f"{total:.0f} s in all; {minutes:.0f} minutes on {processors} processors, {memory} GB")
 
 
 if __name__ == "__main__":

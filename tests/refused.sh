@@ -1,12 +1,12 @@
 #!/usr/bin/env bash
 # Runs built programs once for each allocation that they make, refusing that one: canon_cli on a small text, on a
-# large text, on doc and other comments, on texts at fault, on an argument, and for an outline; lex_cli on its stored input; lex_rows on each text of
-# tests/texts, behind an older text in its map, and on what it reads, builds and shows by itself, literals of texts and their
-# values among it; parse_rows on what it reads, builds, writes and prints by itself; grow_forms likewise; and made_rows on its
-# stored input, whose rows are trees that are made of the syntax tree's types. Each run must give the answer itself, with its
-# status and what it says on standard error, or end with nothing written: with status 3 where memory was refused (in
-# lex_rows, parse_rows, grow_forms and made_rows to a call that is looked at, which then left all as it was), or with their
-# status 4 where it was refused elsewhere.
+# large text, on doc and other comments, on texts at fault, on an argument, and for an outline; lex_cli on its stored
+# input; lex_rows on each text of tests/texts, behind an older text in its map, and on what it reads, builds and shows
+# by itself, literals of texts and their values among it; parse_rows on what it reads, builds, writes and prints by
+# itself; grow_forms likewise; and made_rows on its stored input, whose rows are trees that are made of the syntax
+# tree's types. Each run must give the answer itself, with its status and what it says on standard error, or end with
+# nothing written: with status 3 where memory was refused (in lex_rows, parse_rows, grow_forms and made_rows to a call
+# that is looked at, which then left all as it was), or with their status 4 where it was refused elsewhere.
 # canon_cli says "canon: out of memory" then, and the others nothing.
 # Usage: tests/refused.sh. `rt run` proves and builds the programs first. It needs cc, glibc and python3.
 set -euo pipefail
@@ -52,7 +52,8 @@ sweep() {
         echo "$name: nothing was refused, or nothing answered" >&2
         exit 1
     fi
-    echo "$name: $((n - 1)) allocations refused, $refused with status 3, $elsewhere elsewhere, $((answered - 1)) without effect"
+    echo "$name: $((n - 1)) allocations refused," \
+        "$refused with status 3, $elsewhere elsewhere, $((answered - 1)) without effect"
 }
 
 for program in canon_cli lex_cli lex_rows parse_rows grow_forms made_rows; do
@@ -67,8 +68,8 @@ answer=$work/small.answer
 sweep "canon" canon_cli "$work/small"
 python3 -c 'print("".join(f"struct  S{n} ;\n" for n in range(200)) + "m!{" + "(" * 50 + "x" * 1000 + ")" * 50 + "}")' \
     > "$work/large"
-python3 -c 'print(" ".join(f"struct S{n} ;" for n in range(200)) + " m ! { " + "(" * 50 + "x" * 1000 + ")" * 50 + " }")' \
-    > "$work/large.answer"
+python3 -c 'print(" ".join(f"struct S{n} ;" for n in range(200))
+    + " m ! { " + "(" * 50 + "x" * 1000 + ")" * 50 + " }")' > "$work/large.answer"
 answer=$work/large.answer
 sweep "canon, a large text" canon_cli "$work/large"
 printf 'fn f(){#[a] x..y; use {::a}; |x| #[a] .. + 1}' > "$work/ranges"

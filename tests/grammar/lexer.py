@@ -1,4 +1,5 @@
-"""Tokens of a text, and the text of tokens, by the lexical rules of docs/maintainers/DEFINITIONS.md, written again by hand.
+"""Tokens of a text, and the text of tokens, by the lexical rules of docs/maintainers/DEFINITIONS.md, written again by
+hand.
 
 A token is a tuple as the definitions have it, and behind its fields the place where it begins, in characters.
 """
