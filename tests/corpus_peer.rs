@@ -1,7 +1,6 @@
 //! The peer of `corpus.py`: prints the tokens of a Rust text on standard input, one a line, groups flat. With the
 //! argument `file` they are those of the tree that syn reads, with `lex` those of the text. In a token a line feed is
-//! printed as
-//! `\n` and a backslash as two. Where the text is refused it prints `refused: ..`, and ends with status 1.
+//! printed as `\n` and a backslash as two. Where the text is refused it prints `refused: ..`, and ends with status 1.
 
 use proc_macro2::{Delimiter, TokenStream, TokenTree};
 use quote::ToTokens;
