@@ -57,7 +57,7 @@ fn begin(tree: &Tree<'_>) -> Option<Span> {
     match &tree.form {
         Form::Word(ident) => Some(ident.span()),
         Form::Literal(literal) => Some(literal.span()),
-        Form::Mark(_, _, span) => Some(*span),
+        Form::Mark(_, _, span) => Some(span.span()),
         Form::Lifetime(lifetime) => Some(lifetime.span),
         Form::Group(_, group) => Some(group.span),
         Form::Raw(kept) => begin_of_tokens(kept.entries),

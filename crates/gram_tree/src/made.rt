@@ -22,6 +22,7 @@ use proc_macro2::delimiter::Delimiter;
 use rust_leaf::ident::Ident;
 use rust_leaf::literal::Literal;
 use rust_leaf::punct::Spacing;
+use rust_map::packed::PackedSpan;
 use rust_map::span::Span;
 use std::alloc::AllocError;
 use syn_buffer::entry::Entry;
@@ -49,7 +50,7 @@ pub fn mark<'a>(sign: Sign, spacing: Spacing, span: Span) -> Tree<'a>
     ensures { result ≡ mark_of (sign_text sign) spacing }
 {
     Tree {
-        form: Form::Mark(sign, spacing, span),
+        form: Form::Mark(sign, spacing, PackedSpan::of(span)),
     }
 }
 

@@ -8,6 +8,7 @@ use proc_macro2::delimiter::Delimiter;
 use rust_leaf::ident::Ident;
 use rust_leaf::literal::Literal;
 use rust_leaf::punct::Spacing;
+use rust_map::packed::PackedSpan;
 use rust_map::span::Span;
 use std::marker::Model;
 use syn_buffer::entry::Entry;
@@ -111,7 +112,7 @@ pub enum Form<'a> {
     /// A literal.
     Literal(&'a Literal),
     /// A punctuation, how its last mark is spaced, and where its first mark stands.
-    Mark(Sign, Spacing, Span),
+    Mark(Sign, Spacing, PackedSpan),
     /// `'` and a word.
     Lifetime(&'a Apostrophe<'a>),
     /// Tokens that are kept as they are.

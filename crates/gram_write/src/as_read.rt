@@ -42,7 +42,7 @@ pub fn put_as_read<'a>(tree: &Tree<'a>, out: &mut Vec<Piece<'a>>) -> Result<(), 
         left = match &here.form {
             Form::Word(word) => return ident(word, out),
             Form::Literal(text) => return literal(text, out),
-            Form::Mark(marks, spacing, span) => return sign(*marks, *spacing, *span, out),
+            Form::Mark(marks, spacing, span) => return sign(*marks, *spacing, span.span(), out),
             Form::Lifetime(held) => return lifetime(held.span, held.ident, out),
             Form::Raw(kept) => return entries(kept.entries, out),
             Form::Nil | Form::End => return Ok(()),

@@ -74,7 +74,7 @@ pub(crate) fn put_laid<'a>(
         left = match &here.form {
             Form::Word(word) => return ident(word, out),
             Form::Literal(text) => return literal(text, out),
-            Form::Mark(marks, _, span) => return sign(*marks, Spacing::Alone, *span, out),
+            Form::Mark(marks, _, span) => return sign(*marks, Spacing::Alone, span.span(), out),
             Form::Lifetime(held) => return lifetime(held.span, held.ident, out),
             Form::Raw(kept) => return entries(kept.entries, out),
             Form::Nil | Form::End | Form::Dropped(_) => return Ok(()),
@@ -140,7 +140,7 @@ fn put_first<'a>(
 {
     match &tree.form {
         Form::Word(word) => ident(word, out),
-        Form::Mark(marks, _, span) => sign(*marks, Spacing::Alone, *span, out),
+        Form::Mark(marks, _, span) => sign(*marks, Spacing::Alone, span.span(), out),
         _ => {
             if is_missing(tree) {
                 Ok(())

@@ -3,6 +3,7 @@ pub mod Bytes
 pub mod Tables
 pub mod Files
 pub mod Spans
+pub mod Packed
 pub mod Sources
 pub mod Answers
 pub mod Found

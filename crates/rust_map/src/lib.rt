@@ -5,6 +5,7 @@
 //!
 //! - `place`: a line and a column.
 //! - `span`: a pair of positions, and what a map says of it: line, column, bytes, text.
+//! - `packed`: a span as one number.
 //! - `source_map`: the texts of a map.
 //! - `ahead`: the span that a text will have.
 //! - `fault`: why a text was refused.
@@ -16,6 +17,7 @@
 pub mod ahead;
 pub mod fault;
 mod file;
+pub mod packed;
 pub mod place;
 pub mod source_map;
 pub mod span;
@@ -23,6 +25,7 @@ mod tables;
 mod walk;
 
 pub use fault::{LexError, LexFault};
+pub use packed::PackedSpan;
 pub use place::LineColumn;
 pub use source_map::{MapFull, SourceMap};
 pub use span::Span;

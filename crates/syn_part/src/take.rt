@@ -250,7 +250,7 @@ pub fn mark(tree: &Tree<'_>) -> Option<Mark>
         Form::Mark(sign, spacing, span) => Some(Mark {
             sign: *sign,
             spacing: *spacing,
-            span: *span,
+            span: span.span(),
         }),
         _ => None,
     }
