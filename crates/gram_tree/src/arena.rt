@@ -6,6 +6,9 @@ use bumpalo::Bump;
 use bumpalo::collections::into_bump_slice;
 use std::alloc::{AllocError, Global};
 
+// The bytes of an arena's first chunk: what the trees of a few hundred tokens take.
+const ROOM: usize = 24_000;
+
 /// Where trees stand. They are let go of all at once, with it.
 #[derive(Drop)]
 pub struct Arena {
@@ -14,12 +17,14 @@ pub struct Arena {
 }
 
 impl Arena {
-    /// An arena that takes its memory from there.
+    /// An arena that takes its memory from there, with room for the trees of a few hundred tokens, if there is memory
+    /// for that much at once.
     pub fn new(alloc: Global) -> Arena {
-        Arena {
-            alloc,
-            bump: Bump::new(alloc),
-        }
+        let bump = match Bump::try_with_capacity(alloc, ROOM) {
+            Ok(bump) => bump,
+            Err(_) => Bump::new(alloc),
+        };
+        Arena { alloc, bump }
     }
 
     /// Where its memory is taken from.
