@@ -11,7 +11,8 @@ ghost use Rattle.syn_buffer.specs.Entries.{is_whole, spanned_entries};
 ghost use Rattle.syn_grammar.specs.Read.{IsDerived};
 
 use gram_read::grammar::Grammar;
-use gram_run::read::read;
+use gram_run::pending::Work;
+use gram_run::read::read_with;
 use gram_run::refusal::{Refusal, Wrong};
 use gram_table::kind::Kind;
 use gram_tree::arena::Arena;
@@ -51,7 +52,26 @@ pub(crate) fn read_form<'a>(
     ensures whole { IfOk result (λ x. IsTrue (is_whole x.1.now)) }
     ensures refused { IfErr result (IsUnreadAs (kind_of kind) (tokens entries.now)) }
 {
-    match read(&Grammar, arena, kind, entries) {
+    let mut work = Work::new(arena)?;
+    read_form_with(&mut work, kind, entries)
+}
+
+/// The same as `read_form`, where more than one form is read into an arena.
+///
+/// # Errors
+///
+/// `Syntax` exactly where they begin with none. `Memory` only where a growth was refused.
+pub(crate) fn read_form_with<'a>(
+    work: &mut Work<'a>,
+    kind: Kind,
+    entries: &'a [Entry<'a>],
+) -> Result<(Tree<'a>, &'a [Entry<'a>]), Unread>
+    requires { IsTrue (is_whole entries.now) }
+    ensures found { IfOk result (λ x. IsDerived (kind_of kind) (tokens entries.now) x.0 (tokens x.1.now)) }
+    ensures whole { IfOk result (λ x. IsTrue (is_whole x.1.now)) }
+    ensures refused { IfErr result (IsUnreadAs (kind_of kind) (tokens entries.now)) }
+{
+    match read_with(&Grammar, work, kind, entries) {
         Ok((tree, rest)) => Ok((tree, rest)),
         Err(Refusal::Syntax(wrong)) => Err(Unread::Syntax(wrong)),
         Err(Refusal::Memory) => Err(Unread::Memory),

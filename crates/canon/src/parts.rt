@@ -10,8 +10,9 @@ ghost use Rattle.std.specs.Prelude.{◌<◌, length, IfErr, IfOk, IsTrue};
 ghost use Rattle.syn_buffer.specs.Entries.{is_whole, spanned_entries};
 ghost use Rattle.syn_grammar.specs.Kind.{InnerAttributes, Items};
 
-use crate::file::{Unread, read_form};
+use crate::file::{Unread, read_form, read_form_with};
 use gram_piece::sheet::Sheet;
+use gram_run::pending::Work;
 use gram_table::kind::Kind;
 use gram_tree::arena::Arena;
 use gram_write::write::write;
@@ -56,9 +57,10 @@ fn put_items_in<'a>(
     ensures refused { IfErr result (IsUnreadAs Items (tokens entries.now)) }
 {
     let mut pieces = Vec::new(arena.alloc());
+    let mut work = Work::new(arena)?;
     let mut rest = Rest { entries };
     while !rest.entries.is_empty() && entries.len() - rest.entries.len() < TOKENS {
-        let (item, behind) = read_form(arena, Kind::AnItem, rest.entries)?;
+        let (item, behind) = read_form_with(&mut work, Kind::AnItem, rest.entries)?;
         write(&item, &mut pieces)?;
         rest = Rest { entries: behind };
     }

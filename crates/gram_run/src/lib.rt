@@ -22,7 +22,7 @@ mod form;
 mod group;
 mod leaf;
 mod next;
-mod pending;
+pub mod pending;
 pub mod read;
 pub mod refusal;
 pub mod rules;

@@ -7,9 +7,11 @@ use crate::around::{Around, NoToken};
 use gram_table::kind::Kind;
 use gram_table::op::{Op, Verdicts};
 use gram_tree::arena::Arena;
+use gram_tree::made;
 use gram_tree::tree::Tree;
 use proc_macro2::delimiter::Delimiter;
 use rust_map::span::Span;
+use std::alloc::AllocError;
 use syn_buffer::entry::Entry;
 
 /// What stands behind a group.
@@ -35,15 +37,34 @@ pub(crate) enum Pending<'a> {
     Judged(Verdicts),
 }
 
-/// What a run works with.
+/// What a run works with. One may be given to any number of runs, one after the other.
 #[derive(Drop)]
-pub(crate) struct Work<'a> {
+pub struct Work<'a> {
     /// Where trees stand.
     pub(crate) arena: &'a Arena,
     /// What no token is.
     pub(crate) nil: NoToken<'a>,
     /// What is to be made of what is read, by the last one first.
     pub(crate) pending: Vec<Pending<'a>>,
+}
+
+// So many may be pending before the list grows.
+const ROOM: usize = 64;
+
+impl<'a> Work<'a> {
+    /// What runs work with whose trees stand in the arena.
+    ///
+    /// # Errors
+    ///
+    /// Where there is no memory for it.
+    pub fn new(arena: &'a Arena) -> Result<Work<'a>, AllocError> {
+        let tree = arena.put(made::nil())?;
+        Ok(Work {
+            arena,
+            nil: NoToken { tree },
+            pending: Vec::with_capacity(arena.alloc(), ROOM)?,
+        })
+    }
 }
 
 /// Where steps are to be read, and how many calls deep that may go.

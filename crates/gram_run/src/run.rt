@@ -48,31 +48,10 @@ use proc_macro2::delimiter::Delimiter;
 use std::alloc::AllocError;
 use syn_buffer::entry::Entry;
 
-// What the steps say, where nothing is pending yet.
-fn begin<'a, R: Rules>(
-    rules: &R,
-    arena: &'a Arena,
-    steps: &'static [Op],
-    at: &'a [Entry<'a>],
-    fuel: u128,
-) -> Result<(Tree<'a>, &'a [Entry<'a>]), Refusal>
-    requires { IsTrue (is_whole at.now) }
-    ensures answer { Gives (λ x. x.0) (λ x. x.1.now) result (says (run fuel) (gram_of steps.now) (tokens at.now)) }
-    ensures whole { IfOk result (λ x. IsTrue (is_whole x.1.now)) }
-{
-    let tree = arena.put(made::nil())?;
-    let mut work = Work {
-        arena,
-        nil: NoToken { tree },
-        pending: Vec::new(arena.alloc()),
-    };
-    interp(rules, &mut work, steps, at, fuel)
-}
-
-/// A tree of the kind.
+/// A tree of the kind. What is pending stays so.
 pub(crate) fn call<'a, R: Rules>(
     rules: &R,
-    arena: &'a Arena,
+    work: &mut Work<'a>,
     kind: Kind,
     at: &'a [Entry<'a>],
     fuel: u128,
@@ -84,8 +63,8 @@ pub(crate) fn call<'a, R: Rules>(
     if fuel == 0 {
         return Err(Refusal::Late);
     }
-    match begin(rules, arena, entry(kind), at, fuel - 1) {
-        Ok((tree, rest)) => with_rest(made::node(arena, kind, tree), rest),
+    match interp(rules, work, entry(kind), at, fuel - 1) {
+        Ok((tree, rest)) => with_rest(made::node(work.arena, kind, tree), rest),
         Err(refusal) => Err(named(kind, at, refusal)),
     }
 }

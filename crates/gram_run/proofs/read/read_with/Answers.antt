@@ -1,7 +1,7 @@
 use Rattle.std.proofs.Common.{refl}
 use Rattle.gram_table.specs.Kinds.{kind_of}
 use Rattle.gram_run.proofs.Public.{derived, ended, none}
-use Rattle.gram_run.proofs.read.read.Goals as goal
+use Rattle.gram_run.proofs.read.read_with.Goals as goal
 
 pub returns-in-Ok-clause-found : goal.returns-in-Ok-clause-found
 returns-in-Ok-clause-found g c =

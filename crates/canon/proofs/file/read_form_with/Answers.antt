@@ -1,6 +1,6 @@
 use Rattle.std.proofs.Common.{subst, sym}
 use Rattle.gram_run.specs.Answers.{IsSyntax}
-use Rattle.canon.proofs.file.read_form.Goals as goal
+use Rattle.canon.proofs.file.read_form_with.Goals as goal
 
 pub returns-in-Err-Syntax-clause-refused : goal.returns-in-Err-Syntax-clause-refused
 returns-in-Err-Syntax-clause-refused c =
