@@ -18,7 +18,7 @@ use std::alloc::AllocError;
 use syn_buffer::entry::Entry;
 
 /// How many calls deep a run of the grammar goes at most where a plain form is read.
-pub const CALLS: u128 = 10;
+pub const CALLS: usize = 10;
 
 /// Whether a form of the kind may be a plain one. Of others `read` answers none, so a caller may ask this first.
 #[inline(always)]

@@ -75,5 +75,5 @@ pub(crate) struct Spot<'a> {
     /// The entries that they are read of.
     pub(crate) entries: &'a [Entry<'a>],
     /// How many calls deep.
-    pub(crate) fuel: u128,
+    pub(crate) fuel: usize,
 }

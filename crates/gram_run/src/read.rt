@@ -50,7 +50,7 @@ pub fn read_with<'a, R: Rules>(
     ensures ended { IfErr result (λ e. e ≡ Late → ⊥) }
     ensures whole { IfOk result (λ x. IsTrue (is_whole x.1.now)) }
 {
-    let fuel = at.len() as u128 * 10 + 10;
+    let fuel = at.len() * 10 + 10;
     match call(rules, work, kind, at, fuel) {
         Ok((tree, rest)) => Ok((tree, rest)),
         Err(Refusal::Syntax(wrong)) => Err(Refusal::Syntax(wrong)),

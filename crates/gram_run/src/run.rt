@@ -54,7 +54,7 @@ pub(crate) fn call<'a, R: Rules>(
     work: &mut Work<'a>,
     kind: Kind,
     at: &'a [Entry<'a>],
-    fuel: u128,
+    fuel: usize,
 ) -> Result<(Tree<'a>, &'a [Entry<'a>]), Refusal>
     requires { IsTrue (is_whole at.now) }
     ensures answer { Gives (λ x. x.0) (λ x. x.1.now) result (run fuel (of_kind (kind_of kind)) (tokens at.now)) }
@@ -76,7 +76,7 @@ fn interp<'a, R: Rules>(
     work: &mut Work<'a>,
     steps: &'static [Op],
     at: &'a [Entry<'a>],
-    fuel: u128,
+    fuel: usize,
 ) -> Result<(Tree<'a>, &'a [Entry<'a>]), Refusal>
     requires { IsTrue (is_whole at.now) }
     ensures kept { work.new.pending.items ≡ work.old.pending.items }
@@ -154,7 +154,7 @@ fn to_make<'a>(
     last: Pending<'a>,
     steps: &'static [Op],
     entries: &'a [Entry<'a>],
-    fuel: u128,
+    fuel: usize,
 ) -> Result<Spot<'a>, Refusal>
     requires { IsTrue (is_whole entries.now) }
     ensures answer { (o : Out) → o ≡ made_by last.entry (says (run fuel) (gram_of steps.now) (tokens entries.now))
@@ -176,7 +176,7 @@ fn within<'a>(
     around: Around,
     steps: &'static [Op],
     at: &'a [Entry<'a>],
-    fuel: u128,
+    fuel: usize,
 ) -> Result<Spot<'a>, Refusal>
     requires { IsTrue (is_whole at.now) }
     ensures answer { Leads says_at work.old.pending.items work.new.pending.items result
@@ -193,7 +193,7 @@ fn weighed<'a>(
     verdicts: Verdicts,
     steps: &'static [Op],
     at: &'a [Entry<'a>],
-    fuel: u128,
+    fuel: usize,
 ) -> Result<Spot<'a>, Refusal>
     requires { IsTrue (is_whole at.now) }
     ensures answer { Leads says_at work.old.pending.items work.new.pending.items result
@@ -209,7 +209,7 @@ fn plain<'a>(
     arena: &'a Arena,
     kind: Kind,
     at: &'a [Entry<'a>],
-    fuel: u128,
+    fuel: usize,
 ) -> Result<Option<(Tree<'a>, &'a [Entry<'a>])>, AllocError>
     requires { IsTrue (is_whole at.now) }
     ensures read { IfOk result (λ found. IfSome found (λ x.
@@ -227,7 +227,7 @@ fn node<'a>(
     work: &mut Work<'a>,
     kind: Kind,
     at: &'a [Entry<'a>],
-    fuel: u128,
+    fuel: usize,
 ) -> Result<Spot<'a>, Refusal>
     requires { IsTrue (is_whole at.now) }
     ensures answer { Leads says_at work.old.pending.items work.new.pending.items result
@@ -249,7 +249,7 @@ fn group<'a>(
     delimiter: Delimiter,
     parts: &'static [Op],
     at: &'a [Entry<'a>],
-    fuel: u128,
+    fuel: usize,
 ) -> Result<Spot<'a>, Refusal>
     requires { IsTrue (is_whole at.now) }
     ensures answer { Leads says_at work.old.pending.items work.new.pending.items result
@@ -275,7 +275,7 @@ fn operand<'a, R: Rules>(
     position: Position,
     level: usize,
     at: &'a [Entry<'a>],
-    fuel: u128,
+    fuel: usize,
 ) -> Result<(Tree<'a>, &'a [Entry<'a>]), Refusal>
     requires { IsTrue (is_whole at.now) }
     ensures kept { work.new.pending.items ≡ work.old.pending.items }
@@ -314,7 +314,7 @@ fn optional<'a, R: Rules>(
     count: usize,
     parts: &'static [Op],
     at: &'a [Entry<'a>],
-    fuel: u128,
+    fuel: usize,
 ) -> Result<(Tree<'a>, &'a [Entry<'a>]), Refusal>
     requires { IsTrue (is_whole at.now) }
     ensures kept { work.new.pending.items ≡ work.old.pending.items }
@@ -341,7 +341,7 @@ fn front_of<'a, R: Rules>(
     work: &mut Work<'a>,
     steps: &'static [Op],
     at: &'a [Entry<'a>],
-    fuel: u128,
+    fuel: usize,
 ) -> Result<(Tree<'a>, &'a [Entry<'a>]), Refusal>
     requires { IsTrue (is_whole at.now) }
     ensures kept { work.new.pending.items ≡ work.old.pending.items }
@@ -367,7 +367,7 @@ fn seq<'a, R: Rules>(
     count: usize,
     parts: &'static [Op],
     at: &'a [Entry<'a>],
-    fuel: u128,
+    fuel: usize,
 ) -> Result<Spot<'a>, Refusal>
     requires { IsTrue (is_whole at.now) }
     ensures answer { Leads says_at work.old.pending.items work.new.pending.items result
@@ -419,7 +419,7 @@ fn star<'a, R: Rules>(
     test: Test,
     parts: &'static [Op],
     begin: &'a [Entry<'a>],
-    most: u128,
+    most: usize,
 ) -> Result<(Tree<'a>, &'a [Entry<'a>]), Refusal>
     requires { IsTrue (is_whole begin.now) }
     ensures kept { work.new.pending.items ≡ work.old.pending.items }
@@ -456,7 +456,7 @@ fn many<'a, R: Rules>(
     separator: Separator,
     parts: &'static [Op],
     begin: &'a [Entry<'a>],
-    most: u128,
+    most: usize,
 ) -> Result<(Tree<'a>, &'a [Entry<'a>]), Refusal>
     requires { IsTrue (is_whole begin.now) }
     ensures kept { work.new.pending.items ≡ work.old.pending.items }
@@ -504,7 +504,7 @@ fn own<'a, R: Rules>(
     position: Position,
     kind: Kind,
     at: &'a [Entry<'a>],
-    fuel: u128,
+    fuel: usize,
 ) -> Result<OwnPart<'a>, Refusal>
     requires { IsTrue (is_whole at.now) }
     ensures kept { work.new.pending.items ≡ work.old.pending.items }
@@ -540,7 +540,7 @@ fn tower<'a, R: Rules>(
     position: Position,
     level: usize,
     at: &'a [Entry<'a>],
-    fuel: u128,
+    fuel: usize,
 ) -> Result<(Tree<'a>, &'a [Entry<'a>]), Refusal>
     requires { IsTrue (is_whole at.now) }
     ensures kept { work.new.pending.items ≡ work.old.pending.items }
@@ -569,7 +569,7 @@ fn climb<'a, R: Rules>(
     level: usize,
     left: Tree<'a>,
     at: &'a [Entry<'a>],
-    fuel: u128,
+    fuel: usize,
 ) -> Result<(Tree<'a>, &'a [Entry<'a>]), Refusal>
     requires { IsTrue (is_whole at.now) }
     ensures kept { work.new.pending.items ≡ work.old.pending.items }
