@@ -1,5 +1,5 @@
--- Words as characters: the marks of groups, the underscore, and identifiers.
-use Rattle.std.proofs.Common.{◌≡◌, [], ◌++◌, codes, refl, ap, ◌∙◌}
+-- Words as characters: none, and identifiers.
+use Rattle.std.proofs.Common.{◌≡◌, [], ◌++◌, ap, ◌∙◌}
 use Rattle.std.specs.Prelude.{String, string_bytes, encode_utf8_all}
 use Rattle.std.specs.Str.{chars}
 use Rattle.std.proofs.lemmas.Str.{chars-encodes, chars-nil}
@@ -7,34 +7,9 @@ use Rattle.rust_leaf.specs.Leaf.{ident_text, text_of}
 use Rattle.rust_leaf.specs.declared.ident.Ident.{Ident}
 use Rattle.rust_leaf.proofs.Pushed.{word_pushed}
 use Rattle.rust_leaf.proofs.Texts.{ident_characters}
-use Rattle.rust_leaf.proofs.Numbers.{suffix_is}
 
 pub no_word : chars [] ≡ []
 no_word = chars-nil
-
-pub underscore : chars (codes "_") ≡ codes "_"
-underscore = suffix_is (codes "_") refl
-
-pub parenthesis : chars (codes "(") ≡ codes "("
-parenthesis = suffix_is (codes "(") refl
-
-pub brace : chars (codes "{") ≡ codes "{"
-brace = suffix_is (codes "{") refl
-
-pub bracket : chars (codes "[") ≡ codes "["
-bracket = suffix_is (codes "[") refl
-
-pub parenthesis_end : chars (codes ")") ≡ codes ")"
-parenthesis_end = suffix_is (codes ")") refl
-
-pub brace_end : chars (codes "}") ≡ codes "}"
-brace_end = suffix_is (codes "}") refl
-
-pub bracket_end : chars (codes "]") ≡ codes "]"
-bracket_end = suffix_is (codes "]") refl
-
-pub ruleset words =
-    (no_word, underscore, parenthesis, brace, bracket, parenthesis_end, brace_end, bracket_end)
 
 pub ident_pushed : {A : Type 0} (old new : String A) (i : Ident)
     → string_bytes new ≡ string_bytes old ++ encode_utf8_all (ident_text i) → text_of new ≡ text_of old ++ ident_text i

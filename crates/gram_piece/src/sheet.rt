@@ -130,7 +130,6 @@ fn push_space(out: &mut String, edge: Option<Edge>, next: &Piece) -> Result<(), 
 }
 
 // A token by itself.
-#[tactic(auto, using(crate::proofs::Words::underscore))]
 fn push_piece(out: &mut String, piece: &Piece) -> Result<(), AllocError>
     ensures { OnOk result (text_of out.new ≡ text_of out.old ++ printed.shown (piece_token piece.now)) }
 {
@@ -138,9 +137,9 @@ fn push_piece(out: &mut String, piece: &Piece) -> Result<(), AllocError>
         Piece::Ident(ident) => push_ident(out, ident),
         Piece::Literal(literal) => push_word(out, literal.as_str()),
         Piece::Mark(mark, _, _) => push_mark(out, *mark),
-        Piece::Open(delimiter, _) => push_word(out, opening(*delimiter)),
-        Piece::Close(delimiter) => push_word(out, closing(*delimiter)),
-        Piece::Underscore => push_word(out, "_"),
+        Piece::Open(delimiter, _) => push_opening(out, *delimiter),
+        Piece::Close(delimiter) => push_closing(out, *delimiter),
+        Piece::Underscore => push_mark(out, '_'),
         Piece::Index(index) => push_index(out, *index),
     }
 }
@@ -173,26 +172,24 @@ fn push_index(out: &mut String, index: u32) -> Result<(), AllocError>
     write!(out, "{index}")
 }
 
-#[tactic(auto, using(crate::proofs::Words::words))]
-fn opening(delimiter: Delimiter) -> &'static str
-    ensures { chars result.now ≡ printed.opening delimiter }
+fn push_opening(out: &mut String, delimiter: Delimiter) -> Result<(), AllocError>
+    ensures { OnOk result (text_of out.new ≡ text_of out.old ++ printed.opening delimiter) }
 {
     match delimiter {
-        Delimiter::Parenthesis => "(",
-        Delimiter::Brace => "{",
-        Delimiter::Bracket => "[",
-        Delimiter::None => "",
+        Delimiter::Parenthesis => push_mark(out, '('),
+        Delimiter::Brace => push_mark(out, '{'),
+        Delimiter::Bracket => push_mark(out, '['),
+        Delimiter::None => Ok(()),
     }
 }
 
-#[tactic(auto, using(crate::proofs::Words::words))]
-fn closing(delimiter: Delimiter) -> &'static str
-    ensures { chars result.now ≡ printed.closing delimiter }
+fn push_closing(out: &mut String, delimiter: Delimiter) -> Result<(), AllocError>
+    ensures { OnOk result (text_of out.new ≡ text_of out.old ++ printed.closing delimiter) }
 {
     match delimiter {
-        Delimiter::Parenthesis => ")",
-        Delimiter::Brace => "}",
-        Delimiter::Bracket => "]",
-        Delimiter::None => "",
+        Delimiter::Parenthesis => push_mark(out, ')'),
+        Delimiter::Brace => push_mark(out, '}'),
+        Delimiter::Bracket => push_mark(out, ']'),
+        Delimiter::None => Ok(()),
     }
 }
