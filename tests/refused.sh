@@ -1,12 +1,13 @@
 #!/usr/bin/env bash
-# Runs built programs once for each allocation that they make, refusing that one: canon_cli on a small text, on a
-# large text, on doc and other comments, on texts at fault, on an argument, and for an outline; lex_cli on its stored
-# input; lex_rows on each text of tests/texts, behind an older text in its map, and on what it reads, builds and shows
-# by itself, literals of texts and their values among it; parse_rows on what it reads, builds, writes and prints by
-# itself; grow_forms likewise; and made_rows on its stored input, whose rows are trees that are made of the syntax
-# tree's types. Each run must give the answer itself, with its status and what it says on standard error, or end with
-# nothing written: with status 3 where memory was refused (in lex_rows, parse_rows, grow_forms and made_rows to a call
-# that is looked at, which then left all as it was), or with their status 4 where it was refused elsewhere.
+# Runs built programs once for each allocation that they make, refusing that one: canon_cli on small texts, on a
+# large text, on doc and other comments, on texts at fault, on an argument, and for outlines; grow_canon on the small texts,
+# behind an older text in their map, and asked once more where that was refused; lex_cli on its stored input; lex_rows on each text of
+# tests/texts, behind an older text in its map, and on what it reads, builds and shows by itself, literals of texts and their
+# values among it; parse_rows on what it reads, builds, writes and prints by itself; grow_forms likewise; and made_rows on its
+# stored input, whose rows are trees that are made of the syntax tree's types. Each run must give the answer itself, with its
+# status and what it says on standard error, or end with nothing written: with status 3 where memory was refused (in
+# lex_rows, parse_rows, grow_forms and made_rows to a call that is looked at, which then left all as it was), or with their
+# status 4 where it was refused elsewhere.
 # canon_cli says "canon: out of memory" then, and the others nothing.
 # Usage: tests/refused.sh. `rt run` proves and builds the programs first. It needs cc, glibc and python3.
 set -euo pipefail
@@ -56,16 +57,28 @@ sweep() {
         "$refused with status 3, $elsewhere elsewhere, $((answered - 1)) without effect"
 }
 
-for program in canon_cli lex_cli lex_rows parse_rows grow_forms made_rows; do
+for program in canon_cli grow_canon lex_cli lex_rows parse_rows grow_forms made_rows; do
     build "$program"
 done
 
 refusal=$'canon: out of memory\n'
 want=0 said=
-printf 'fn f(){}' > "$work/small"
-printf 'fn f () { }\n' > "$work/small.answer"
-answer=$work/small.answer
-sweep "canon" canon_cli "$work/small"
+# both TEXT ANSWER [outline]: the program, and the call behind an older text.
+both() {
+    printf '%b' "$1" > "$work/text"
+    printf '%b' "$2" > "$work/answer"
+    answer=$work/answer
+    refusal=$'canon: out of memory\n' sweep "canon${3:+ $3} of $1" canon_cli "$work/text" "${@:3}"
+    [ "${3-}" = outline ] || printf '%b' "${2%\\n}" > "$work/answer"
+    refusal='' sweep "the call${3:+ of its $3} of $1" grow_canon "$work/text" "${@:3}"
+}
+both 'fn f(){}' 'fn f () { }\n'
+both "fn f<T, 'a>() {}" "fn f < 'a , T , > () { }\n"
+both '/// hi\nstruct S;' '# [doc = " hi"] struct S ;\n'
+both 'struct S;\nfn go(){}' 'struct S 1:7\nfn go 2:3\n' outline
+both 'mod m{struct S;}' 'mod m 1:4\nstruct S 1:13\n' outline
+both '\xef\xbb\xbfstruct S;' 'struct S 1:8\n' outline
+both 'fn f(){fn g();*b && #[x] .. == c}' 'fn f () { fn g () ; (* b && # [x] (..)) == c }\n'
 python3 -c 'print("".join(f"struct  S{n} ;\n" for n in range(200)) + "m!{" + "(" * 50 + "x" * 1000 + ")" * 50 + "}")' \
     > "$work/large"
 python3 -c 'print(" ".join(f"struct S{n} ;" for n in range(200))
@@ -76,10 +89,6 @@ printf 'fn f(){#[a] x..y; use {::a}; |x| #[a] .. + 1}' > "$work/ranges"
 printf 'fn f () { # [a] (x .. y) ; use { :: a } ; (| x | # [a] (..)) + 1 }\n' > "$work/ranges.answer"
 answer=$work/ranges.answer
 sweep "canon, ranges behind attributes" canon_cli "$work/ranges"
-printf '/// hi\nstruct S;' > "$work/doc"
-printf '# [doc = " hi"] struct S ;\n' > "$work/doc.answer"
-answer=$work/doc.answer
-sweep "canon, a doc comment" canon_cli "$work/doc"
 printf '/*c*/const S:&'"'"'static str=r#"a"#;//x' > "$work/raw"
 printf 'const S : & '"'"'static str = r#"a"# ;\n' > "$work/raw.answer"
 answer=$work/raw.answer
