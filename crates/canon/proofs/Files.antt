@@ -24,6 +24,7 @@ file_read es tree rest d =
 no_file : (es : List Entry) → NoneRead AFile (tokens es) → NoFile (plain (spanned_entries es))
 no_file es n = none_read (plain (spanned_entries es)) (subst (NoneRead AFile) (sym (plain_entries es)) n)
 
-pub file_unread : (es : List Entry) (u : Unread) → IsUnreadAs AFile (tokens es) u → IsUnread (plain (spanned_entries es)) u
+pub file_unread : (es : List Entry) (u : Unread) → IsUnreadAs AFile (tokens es) u
+    → IsUnread (plain (spanned_entries es)) u
 file_unread es Memory n = tt
 file_unread es (Syntax w) n = no_file es n

@@ -44,8 +44,9 @@ room bytes short utf8 full =
     omega (arith, full, length-le-encodes (chars bytes), ap length (encodes-chars bytes utf8))
 
 -- a fault of a text that is short enough is the run's
-pub run_fault : (bytes : List ℕ) (fault : Fault) → length bytes ≤ run_limit → IsUtf8 bytes → IsFaultOf (chars bytes) fault →
-    (fault ≡ MapFull → 2 ^ 32 ≤ 1 + length (chars bytes)) → IsRunFault run_limit bytes fault
+pub run_fault : (bytes : List ℕ) (fault : Fault) → length bytes ≤ run_limit → IsUtf8 bytes →
+    IsFaultOf (chars bytes) fault → (fault ≡ MapFull → 2 ^ 32 ≤ 1 + length (chars bytes)) →
+    IsRunFault run_limit bytes fault
 run_fault bytes (Lexical place) short utf8 f full = (short, utf8, f)
 run_fault bytes (Syntax error place) short utf8 f full = (short, utf8, f)
 run_fault bytes MapFull short utf8 f full = absurd (room bytes short utf8 (full refl))

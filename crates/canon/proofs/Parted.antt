@@ -170,14 +170,16 @@ item_stands : (ts us : List Token) (x : Tree) → IsDerived AnItem ts x us → l
 item_stands ts us x d = stands ts (omega (arith, shorter ts us x d))
 
 -- items one behind the other, and others behind these
-pub follow_all : (is js : List Tree) (ts us vs : List Token) → Follow is ts us → Follow js us vs → Follow (is ++ js) ts vs
+pub follow_all : (is js : List Tree) (ts us vs : List Token) → Follow is ts us → Follow js us vs
+    → Follow (is ++ js) ts vs
 follow_all [] js ts us vs e f = subst (λ r. Follow js r vs) (sym e) f
 follow_all (i ∷ is) js ts us vs (ws, d, e) f = (ws, d, follow_all is js ws us vs e f)
 
 pub written_all : (is js : List Tree) → all_written (is ++ js) ≡ all_written is ++ all_written js
 written_all [] js = refl
 written_all (i ∷ is) js =
-    ap (λ ts. written_as i ++ ts) (written_all is js) ∙ sym (append_assoc (written_as i) (all_written is) (all_written js))
+    ap (λ ts. written_as i ++ ts) (written_all is js)
+    ∙ sym (append_assoc (written_as i) (all_written is) (all_written js))
 
 -- which tokens they are
 spelled : (is : List Tree) (ts us : List Token) → Follow is ts us → (ps : List Token) × (ps ++ us ≡ ts)
@@ -290,7 +292,8 @@ rest_within es rest pieces s =
 
 pub items_put : (es rest : List Entry) (pieces : List Piece) (old new : Sheet) → is_whole es ≡ true
     → Some es rest pieces → length rest < length es
-    → ((ts : List Token) → Shows old ts → Shows new (ts ++ map piece_token pieces)) → PrintsItems es (length rest) old new
+    → ((ts : List Token) → Shows old ts → Shows new (ts ++ map piece_token pieces))
+    → PrintsItems es (length rest) old new
 items_put es rest pieces old new h s l p =
     let (ps, e) = spelled s.items (tokens es) (tokens rest) s.follow in
     let b : Left es rest = left ps es rest e h s.whole in
@@ -321,7 +324,8 @@ pub record Progress (es : List Entry) (left : ℕ) (sheet : Sheet) : Type 0 wher
   pub follow : Follow items after (tokens (left_of left es))
   pub shows : Shows sheet (written_as front ++ all_written items)
 
-pub begun : (es : List Entry) (n : ℕ) (old new : Sheet) → Shows old [] → PrintsAttributes es n old new → Progress es n new
+pub begun : (es : List Entry) (n : ℕ) (old new : Sheet) → Shows old [] → PrintsAttributes es n old new
+    → Progress es n new
 begun es n old new s p = record {
   behind = p.behind;
   front = p.tree;

@@ -6,8 +6,8 @@ use Rattle.canon.specs.declared.fault.Fault.{Fault}
 use Rattle.canon_program.specs.declared.Asked.{Asked}
 use Rattle.canon_program.specs.declared.Asked.TheVariants.{Canonical, Outline, Unknown}
 
--- The status is that of an outcome: where that is no fault, such a page of the reader's bytes was written; else the fault
--- is one of these bytes, and nothing was written, or the writer failed.
+-- The status is that of an outcome: where that is no fault, such a page of the reader's bytes was written; else the
+-- fault is one of these bytes, and nothing was written, or the writer failed.
 pub record EndsRun (IsSuch : List ℕ → List ℕ → Type 0) (status : ℕ) (bytes old new : Option (List ℕ)) : Type 0 where
   pub outcome : Result (Unit {0}) Fault
   pub is : status ≡ status_of outcome
