@@ -8,6 +8,7 @@
 //!
 //! A row of the others names what is asked, which no text can ask; what is asked answers whether all is as it is to be.
 //!
+//! - `deep`: the outlines of chains of 100,000 turns.
 //! - `large`: what each call that reads or writes a text does with a large one, which no row writes.
 //! - `limits`: `run_limited`.
 //! - `maps`: what becomes of the map, by `canonical` and `outline`.
@@ -18,6 +19,7 @@
 //! - `sweep`: all short texts, and one item many times over.
 #![tactic(auto)]
 
+mod deep;
 mod large;
 mod limits;
 mod maps;
@@ -57,6 +59,7 @@ fn put_whether(row: Row, page: &mut Page) -> Result<(), Unanswered> {
 
 fn holds(alloc: Global, row: Row) -> Result<bool, Unanswered> {
     match row.call {
+        "deep" => deep::holds(alloc, row.text),
         "large" => large::holds(alloc, row.text),
         "limits" => limits::holds(alloc, row.text),
         "maps" => maps::holds(alloc, row.text),

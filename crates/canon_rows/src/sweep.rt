@@ -1,5 +1,5 @@
-//! What holds of all short texts, and of one item many times over: with ample memory, none is refused for want of it, and
-//! a map of its own has room.
+//! What holds of all short texts, and of one item many times over: with ample memory, none is refused for want of it,
+//! and a map of its own has room.
 
 use crate::outputs::answer;
 use canon::Fault;
@@ -29,8 +29,8 @@ fn is_found(alloc: Global, text: &str) -> bool {
     !matches!(answer(alloc, text), Err(Fault::MapFull | Fault::Memory))
 }
 
-// The text of a number: its digits, with the least first, are the characters' places from 1 on, so that each text has one
-// number, and a number with a digit 0 before another one has none.
+// The text of a number: its digits, with the least first, are the characters' places from 1 on, so that each text has
+// one number, and a number with a digit 0 before another one has none.
 fn short_text(alloc: Global, number: usize) -> Result<Option<String>, AllocError> {
     let mut text = String::new(alloc);
     let (mut rest, mut has_ended) = (number, false);

@@ -42,7 +42,8 @@ from_inside : (d : Delimiter) (s : Span) (n j : ℕ) (es : List Entry) → close
 from_inside d s n j es c l =
     let w : n < length es = within d s n es c in
     ap (λ x. tokens (drop j x)) (parts d s n es c)
-    ∙ ap tokens (drop-append-le j (take n es) (entry.Close d s ∷ drop (suc n) es) (omega (arith, length-take n es, w, l)))
+    ∙ ap tokens (drop-append-le j (take n es) (entry.Close d s ∷ drop (suc n) es)
+    (omega (arith, length-take n es, w, l)))
     ∙ map-append entry_token (drop j (take n es)) (entry.Close d s ∷ drop (suc n) es)
 
 -- and from behind it on
@@ -62,7 +63,8 @@ never_closes (suc k) (suc j) (entry.Open c s n ∷ es) d ts h =
       | inl l ↦ ap (λ x. closes_all 0 (tokens x ++ Closes d ∷ ts)) (from_behind n j es l)
           ∙ never_closes k (j - suc n) (drop (suc n) es) d ts q.1
       | inr l ↦ ap (λ x. closes_all 0 (x ++ Closes d ∷ ts)) (from_inside c s n j es p.0 l)
-          ∙ ap (closes_all 0) (append_assoc (tokens (drop j (take n es))) (Closes c ∷ tokens (drop (suc n) es)) (Closes d ∷ ts))
+          ∙ ap (closes_all 0) (append_assoc (tokens (drop j (take n es))) (Closes c ∷ tokens (drop (suc n) es))
+          (Closes d ∷ ts))
           ∙ never_closes k j (take n es) c (tokens (drop (suc n) es) ++ Closes d ∷ ts) q.0
     ]
 never_closes (suc k) (suc j) (entry.Close c s ∷ es) d ts h = cc

@@ -1,9 +1,10 @@
 -- The names in a form.
-use Rattle.std.specs.Prelude.{ℕ, zero, suc}
-use Rattle.std.proofs.Common.{◌≡◌, List, [], ◌∷◌, ◌++◌, refl, append_assoc}
+use Rattle.std.specs.Prelude.{ℕ, Bool, true, false, zero, suc, cond}
+use Rattle.std.proofs.Common.{◌≡◌, ◌+◌, List, [], ◌∷◌, ◌++◌, ap, ap₂, ◌∙◌, refl, append_assoc, length}
 use Rattle.std.proofs.lemmas.List.{length-append, append-nil, map-append}
 use Rattle.rust_leaf.specs.declared.punct.Spacing.{Spacing}
-use Rattle.syn_grammar.specs.Names.{Lister, Nothing, Others, Names, Named, named, names_behind}
+use Rattle.syn_grammar.specs.Name.{the_name, same_part}
+use Rattle.syn_grammar.specs.Names.{Lister, Nothing, Others, Names, Named, Name, named, names_behind}
 use Rattle.syn_grammar.specs.Tree as t
 use Rattle.syn_grammar.specs.Tree.{Tree, flat}
 use Rattle.gram_tree.specs.declared.tree.Element.{Element}
@@ -40,6 +41,25 @@ others_named n x = refl
 
 pub ruleset none_named = (nothing_named, others_named)
 
+one_of : (b : Bool) (xs : List Name) → xs ≡ [] → cond b [] xs ≡ []
+one_of true xs h = refl
+one_of false xs h = h
+
+-- where no names are listed, none are listed further in
+pub nothing_listed : (n : ℕ) (x : Tree) → names_behind Nothing n x ≡ []
+nothing_listed n (t.Called m x) =
+    ap (λ xs. cond (same_part m the_name) xs (names_behind Nothing n x)) (nothing_named n x)
+    ∙ one_of (same_part m the_name) (names_behind Nothing n x) (nothing_listed n x)
+nothing_listed n (t.Node k x) = nothing_listed n x
+nothing_listed n (t.Pair x y) =
+    ap₂ (λ xs ys. xs ++ ys) (nothing_listed n x) (nothing_listed (n + length (flat x)) y)
+nothing_listed n (t.First x) = nothing_listed n x
+nothing_listed n (t.Second x) = nothing_listed n x
+nothing_listed n (t.Again x y) =
+    ap₂ (λ xs ys. xs ++ ys) (nothing_listed n x) (nothing_listed (n + length (flat x)) y)
+nothing_listed n (t.Group d x) = nothing_listed (n + 1) x
+nothing_listed n x = refl
+
 pub in_seconds : (l : Lister) (n m : ℕ) (x : Tree) → names_behind l n (seconds m x) ≡ names_behind l n x
 in_seconds l n zero x = refl
 in_seconds l n (suc m) x = in_seconds l n m x
@@ -54,4 +74,18 @@ pub in_elements : (l : Lister) (n c : ℕ) (es : List Element) (y : Tree) → na
 in_elements l n c [] y h = h
 in_elements l n c (e ∷ es) y h = refl
 
-pub ruleset forms = (named_seconds, named_mark, named_turns, named_elements, in_seconds, in_mark, in_elements, flat_seconds, append_assoc, append-nil, length-append, map-append)
+pub ruleset forms = (
+  named_seconds,
+  named_mark,
+  named_turns,
+  named_elements,
+  in_seconds,
+  in_mark,
+  in_elements,
+  flat_seconds,
+  nothing_listed,
+  append_assoc,
+  append-nil,
+  length-append,
+  map-append,
+)

@@ -4,14 +4,14 @@ ghost use Rattle.gram_read.specs.Names.{lister_of, name_of, named_of};
 ghost use Rattle.gram_table.specs.Kinds.{kind_of};
 ghost use Rattle.gram_table.specs.Parts.{part_of};
 ghost use Rattle.gram_tree.specs.Forms.{turns};
-ghost use Rattle.std.specs.Prelude.{◌≡◌, ◌++◌, ◌+◌, ◌<◌, ◌^◌, IfOk, OnOk, length, map};
+ghost use Rattle.std.specs.Prelude.{◌≡◌, ◌++◌, ◌+◌, ◌<◌, ◌^◌, [], IfOk, OnOk, length, map};
 ghost use Rattle.syn_grammar.specs.Name.{same_part, the_name};
 ghost use Rattle.syn_grammar.specs.Names.{Names, Others, lister, named, names, names_behind, trait_kind};
 ghost use Rattle.syn_grammar.specs.Tree.{flat};
 
+use crate::count::{Left, past};
 use gram_table::kind::Kind;
 use gram_table::part::Part;
-use gram_tree::count::past;
 use gram_tree::tree::{Form, Tree, Two};
 use rust_leaf::ident::Ident;
 use std::alloc::AllocError;
@@ -154,75 +154,92 @@ fn put_name<'a>(
     }
 }
 
-// The names in a tree that stands behind so many tokens; and so many, and those of the tree.
+// The names in a tree that stands behind so many tokens; and so many, and those of the tree. Where no names are listed,
+// the tokens are counted: only modules in one another are gone into by calls.
 #[cycle(listing)]
 #[tactic(auto, using(crate::proofs::Listed::forms))]
-fn put_names<'a>(
+fn put_names<'t, 'a>(
     lister: Lister,
     index: usize,
-    tree: &Tree<'a>,
+    tree: &'t Tree<'a>,
+    left: &mut Vec<Left<'t, 'a>>,
     out: &mut Vec<Name<'a>>,
 ) -> Result<usize, AllocError>
-    requires { index + length (flat tree.now) < 2 ^ 64 }
+    requires empty { left.old.items ≡ [] }
+    requires fits { index + length (flat tree.now) < 2 ^ 64 }
+    ensures empty { OnOk result (left.new.items ≡ []) }
     ensures names { OnOk result (map name_of out.new.items
         ≡ map name_of out.old.items ++ names_behind (lister_of lister) index tree.now) }
     ensures behind { IfOk result (λ n. n ≡ index + length (flat tree.now)) }
 {
+    if let Lister::Nothing = lister {
+        return past(index, tree, left);
+    }
     match &tree.form {
         Form::Called(part, inner) if is_name(*part) => {
             put_name(lister, index, inner, out)?;
-            Ok(past(index, inner))
+            past(index, inner, left)
         }
-        Form::Called(_, inner) => put_names(lister, index, inner, out),
-        Form::Node(kind, inner) => { put_names(listed_by(lister, *kind, inner), index, inner, out) }
-        Form::Pair(two) => put_two(lister, index, two, out),
-        Form::First(_, inner) | Form::Second(_, inner) => put_names(lister, index, inner, out),
-        Form::Turns(turns) => put_turns(lister, index, turns.each, out),
-        Form::Group(_, group) => Ok(put_names(lister, index + 1, &group.inside, out)? + 1),
-        Form::Word(_) | Form::Literal(_) | Form::Mark(_, _, _) => Ok(past(index, tree)),
-        Form::Lifetime(_) | Form::Raw(_) | Form::Nil | Form::End => Ok(past(index, tree)),
-        Form::Elements(_) | Form::Dropped(_) | Form::Verbatim(_) => Ok(past(index, tree)),
-        Form::Whole(_) | Form::Alone(_, _) | Form::Front(_, _) => Ok(past(index, tree)),
-        Form::Back(_, _) | Form::Infix(_, _) => Ok(past(index, tree)),
+        Form::Called(_, inner) => put_names(lister, index, inner, left, out),
+        Form::Node(kind, inner) => {
+            put_names(listed_by(lister, *kind, inner), index, inner, left, out)
+        }
+        Form::Pair(two) => put_two(lister, index, two, left, out),
+        Form::First(_, inner) | Form::Second(_, inner) => {
+            put_names(lister, index, inner, left, out)
+        }
+        Form::Turns(turns) => put_turns(lister, index, turns.each, left, out),
+        Form::Group(_, group) => { Ok(put_names(lister, index + 1, &group.inside, left, out)? + 1) }
+        Form::Word(_) | Form::Literal(_) | Form::Mark(_, _, _) => past(index, tree, left),
+        Form::Lifetime(_) | Form::Raw(_) | Form::Nil | Form::End => past(index, tree, left),
+        Form::Elements(_) | Form::Dropped(_) | Form::Verbatim(_) => past(index, tree, left),
+        Form::Whole(_) | Form::Alone(_, _) | Form::Front(_, _) => past(index, tree, left),
+        Form::Back(_, _) | Form::Infix(_, _) => past(index, tree, left),
     }
 }
 
 // The names in two trees.
 #[cycle(listing)]
 #[tactic(auto, using(crate::proofs::Listed::forms))]
-fn put_two<'a>(
+fn put_two<'t, 'a>(
     lister: Lister,
     index: usize,
-    two: &Two<'a>,
+    two: &'t Two<'a>,
+    left: &mut Vec<Left<'t, 'a>>,
     out: &mut Vec<Name<'a>>,
 ) -> Result<usize, AllocError>
-    requires { index + length (flat two.now.front ++ flat two.now.back) < 2 ^ 64 }
+    requires empty { left.old.items ≡ [] }
+    requires fits { index + length (flat two.now.front ++ flat two.now.back) < 2 ^ 64 }
+    ensures empty { OnOk result (left.new.items ≡ []) }
     ensures names { OnOk result (map name_of out.new.items
         ≡ map name_of out.old.items ++ (names_behind (lister_of lister) index two.now.front
         ++ names_behind (lister_of lister) (index + length (flat two.now.front)) two.now.back)) }
     ensures behind { IfOk result (λ n. n ≡ index + length (flat two.now.front ++ flat two.now.back)) }
 {
-    let behind = put_names(lister, index, &two.front, out)?;
-    put_names(lister, behind, &two.back, out)
+    let behind = put_names(lister, index, &two.front, left, out)?;
+    put_names(lister, behind, &two.back, left, out)
 }
 
 // The names in turns.
 #[cycle(listing)]
 #[tactic(auto, using(crate::proofs::Listed::forms))]
-fn put_turns<'a>(
+fn put_turns<'t, 'a>(
     lister: Lister,
     index: usize,
-    trees: &[Tree<'a>],
+    trees: &'t [Tree<'a>],
+    left: &mut Vec<Left<'t, 'a>>,
     out: &mut Vec<Name<'a>>,
 ) -> Result<usize, AllocError>
-    requires { index + length (flat (turns trees.now)) < 2 ^ 64 }
+    requires empty { left.old.items ≡ [] }
+    requires fits { index + length (flat (turns trees.now)) < 2 ^ 64 }
+    ensures empty { OnOk result (left.new.items ≡ []) }
     ensures names { OnOk result (map name_of out.new.items
         ≡ map name_of out.old.items ++ names_behind (lister_of lister) index (turns trees.now)) }
     ensures behind { IfOk result (λ n. n ≡ index + length (flat (turns trees.now))) }
 {
     let mut behind = index;
     for tree in trees {
-        behind = put_names(lister, behind, tree, out)?;
+        behind = put_names(lister, behind, tree, left, out)?;
     }
     Ok(behind)
 }
@@ -232,11 +249,12 @@ fn put_turns<'a>(
 ///
 /// # Errors
 ///
-/// Where there is no memory for more names.
+/// Where there is no memory for more names, or for what is left to be counted of a tree.
 pub fn names<'a>(file: &Tree<'a>, out: &mut Vec<Name<'a>>) -> Result<(), AllocError>
     requires { length (flat file.now) < 2 ^ 64 }
     ensures { OnOk result (map name_of out.new.items ≡ map name_of out.old.items ++ names file.now) }
 {
-    put_names(Lister::Others, 0, file, out)?;
+    let mut left = Vec::new(*out.allocator());
+    put_names(Lister::Others, 0, file, &mut left, out)?;
     Ok(())
 }

@@ -1,4 +1,4 @@
-use Rattle.std.proofs.Common.{◌≡◌, ◌++◌, ◌+◌, drop, length, map}
+use Rattle.std.proofs.Common.{◌≡◌, ◌++◌, ◌+◌, [], drop, length, map}
 use Rattle.gram_read.specs.Names.{lister_of, name_of}
 use Rattle.gram_tree.specs.Forms.{turns}
 use Rattle.syn_grammar.specs.Names.{names_behind}
@@ -11,3 +11,4 @@ invariant-put_turns-loop-tree l =
     (map name_of l.out.items ++ names_behind (lister_of l.lister) l.behind (turns (drop l.tree-index l.trees))
     ≡ map name_of l.initial.out.items ++ names_behind (lister_of l.lister) l.index (turns l.trees))
     × (l.behind + length (flat (turns (drop l.tree-index l.trees))) ≡ l.index + length (flat (turns l.trees)))
+    × (l.left.items ≡ [])
