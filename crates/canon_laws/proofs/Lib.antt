@@ -1,4 +1,7 @@
 pub mod Files
+pub mod FileForests
+pub mod Shebangs
+pub mod Printed
 pub mod Programs
 pub mod Every
 pub mod Stacks

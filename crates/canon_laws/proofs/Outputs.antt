@@ -1,18 +1,16 @@
 -- Outputs: the text of a normal form has its tokens, and is read as its own output.
-use Rattle.std.proofs.Common.{◌≡◌, ℕ, List, [], ◌∷◌, ◌++◌, refl, sym, ap, ◌∙◌, subst}
-use Rattle.std.specs.Prelude.{◌↔◌}
+use Rattle.std.proofs.Common.{◌≡◌, ℕ, List, [], ◌∷◌, ◌++◌, refl, sym, ap, ap₂, ◌∙◌, subst}
+use Rattle.std.specs.Prelude.{◌↔◌, Option, Some, None}
 use Rattle.std.proofs.lemmas.List.{append-nil}
 use Rattle.rust_map.specs.Spans.{call_site}
 use Rattle.rust_leaf.specs.Leaf.{AreCharacters}
 use Rattle.proc_macro2.specs.Flat.{spanned}
-use Rattle.proc_macro2.specs.Forest.{IsForest}
+use Rattle.proc_macro2.specs.FileForest.{IsFileForest, NoShebang}
 use Rattle.proc_macro2.specs.Groups.{IsMatched}
 use Rattle.proc_macro2.specs.Leaf.{AreLeaves}
 use Rattle.proc_macro2.specs.Printed as printed
 use Rattle.proc_macro2.specs.Spacing.{IsWellSpaced}
 use Rattle.proc_macro2.specs.Token.{Spanned, Token, plain}
-use Rattle.lex_laws.proofs.Exactly.{forest_back}
-use Rattle.lex_laws.proofs.Forests.{forest_spaced}
 use Rattle.syn_grammar.specs.Gram.{ref}
 use Rattle.syn_grammar.specs.Kept.{kept}
 use Rattle.syn_grammar.specs.Kind.{AFile, Plain}
@@ -23,9 +21,12 @@ use Rattle.syn_grammar.proofs.Settled as settled
 use Rattle.grammar_back.specs.After.{After}
 use Rattle.read_back.proofs.ReadBack as back
 use Rattle.read_back.proofs.Told.{file_covered}
-use Rattle.canon_laws.specs.Program.{IsProgram, IsOutput, written}
+use Rattle.canon_laws.specs.Program.{IsFile, IsProgram, IsOutput, Program, shebang_text, written}
+use Rattle.canon_laws.proofs.FileForests.{file_matched, file_spaced, same_file}
 use Rattle.canon_laws.proofs.Leaves.{Good, IsWithin, good, good_normal, leaves, matching}
-use Rattle.canon_laws.proofs.Programs.{normal_spaced, same_tokens}
+use Rattle.canon_laws.proofs.Printed.{is_line, printed_forest}
+use Rattle.canon_laws.proofs.Programs.{normal_spaced}
+use Rattle.canon_laws.proofs.Shebangs.{file_alone}
 use Rattle.canon_laws.proofs.Stacks.{IsMatching, opened, opened_plain}
 
 -- tokens somewhere
@@ -43,79 +44,123 @@ placed_matched ts m =
     opened_plain [] (placed ts) ∙ ap (opened []) (placed_plain ts ∙ sym (append-nil ts)) ∙ m.by [] []
 
 -- the tree of a program is good, and its normal form
-file_within : (text : List ℕ) (t : Tree) → AreCharacters text → (p : IsProgram text t) → IsWithin (flat t)
-file_within text t a p = record {
-  leaves = let spaced = forest_spaced 0 text p.tokens a p.forest in subst AreLeaves (sym p.file.spelled) spaced.0;
+file_within : (text : List ℕ) (p : Program) → AreCharacters text → (i : IsProgram text p) → IsWithin (flat p.tree)
+file_within text p a i = record {
+  leaves = subst AreLeaves (sym i.file.spelled) (file_spaced 0 text p.shebang i.tokens a i.forest).0;
   before = [];
   behind = [];
   after = [];
-  opens = ap (opened []) (append-nil (flat t) ∙ p.file.spelled) ∙ sym (opened_plain [] p.tokens) ∙ p.forest.matched;
+  opens = ap (opened []) (append-nil (flat p.tree) ∙ i.file.spelled) ∙ sym (opened_plain [] i.tokens)
+      ∙ file_matched 0 text p.shebang i.tokens i.forest;
 }
 
-normal_good : (text : List ℕ) (t : Tree) → AreCharacters text → IsProgram text t → Good (normal (kept t))
-normal_good text t a p = good_normal t (good t (ref AFile) [] p.file.derived (file_within text t a p))
-
--- the output has the tokens of the normal form
-pub output_tokens : (text : List ℕ) (t : Tree) → AreCharacters text → IsProgram text t
-    → (read : List Spanned) × IsForest 0 (written t) read × (plain read ≡ flat (normal (kept t)))
-output_tokens text t a p =
-    let ts : List Token = flat (normal (kept t)) in
-    let e : plain (placed ts) ≡ ts = placed_plain ts in
-    let h : Good (normal (kept t)) = normal_good text t a p in
-    let (read, forest, same) = (forest_back 0 (placed ts) (subst AreLeaves (sym e) (leaves (normal (kept t)) h))
-    (placed_matched ts (matching (normal (kept t)) h))).0
-    (subst IsWellSpaced (sym e) (normal_spaced text t a p)) in
-    (read, subst (λ us. IsForest 0 (printed.text us) read) e forest, same ∙ e)
+normal_good : (text : List ℕ) (p : Program) → AreCharacters text → IsProgram text p → Good (normal (kept p.tree))
+normal_good text p a i = good_normal p.tree (good p.tree (ref AFile) [] i.file.derived (file_within text p a i))
 
 -- a file's tokens end behind it
 at_end : (x : Tree) → After AFile x []
 at_end x = (refl, (refl, tt))
 
--- it has a program, of which the normal form is kept
-pub output_program : (text : List ℕ) (t : Tree) → AreCharacters text → IsProgram text t
-    → (u : Tree) × IsProgram (written t) u × (kept u ≡ normal (kept t))
-output_program text t a p =
-    let (read, forest, same) = output_tokens text t a p in
-    let r : IsRead AFile (flat (normal (kept t)) ++ []) (normal (kept t)) [] =
-    back.read_back AFile t [] [] p.file.derived (file_covered t [] p.file.derived) (at_end (normal (kept t))) in (
+-- the tokens of the normal form are a file, of which the normal form is kept
+file_again : (tokens : List Token) (tree : Tree) → IsFile tokens tree
+    → (u : Tree) × IsFile (flat (normal (kept tree))) u × (kept u ≡ normal (kept tree))
+file_again tokens tree f =
+    let r : IsRead AFile (flat (normal (kept tree)) ++ []) (normal (kept tree)) [] =
+    back.read_back AFile tree [] [] f.derived (file_covered tree [] f.derived) (at_end (normal (kept tree))) in (
       r.tree,
       record {
-        tokens = read;
-        forest = forest;
-        file = record {
-          derived = r.derived;
-          spelled = sym (append-nil (flat r.tree)) ∙ r.spelled ∙ append-nil (flat (normal (kept t))) ∙ sym same;
-        };
+        derived = r.derived;
+        spelled = sym (append-nil (flat r.tree)) ∙ r.spelled ∙ append-nil (flat (normal (kept tree)));
       },
       r.kept_is,
     )
 
+-- the output has the shebang, and the tokens of the normal form
+pub output_tokens : (text : List ℕ) (p : Program) → AreCharacters text → IsProgram text p
+    → (read : List Spanned) × IsFileForest 0 (written p) p.shebang read × (plain read ≡ flat (normal (kept p.tree)))
+output_tokens text p a i =
+    let ts : List Token = flat (normal (kept p.tree)) in
+    let e : plain (placed ts) ≡ ts = placed_plain ts in
+    let h : Good (normal (kept p.tree)) = normal_good text p a i in
+    let (u, file, keeps) = file_again (plain i.tokens) p.tree i.file in
+    let (read, forest, same) = printed_forest p.shebang (placed ts)
+    (is_line 0 text p.shebang i.tokens i.forest)
+    (λ n read forest same. file_alone 0 (printed.text (plain (placed ts))) read u forest
+    (subst (λ (us : List Token). IsFile us u) (sym (same ∙ e)) file))
+    (subst AreLeaves (sym e) (leaves (normal (kept p.tree)) h))
+    (placed_matched ts (matching (normal (kept p.tree)) h))
+    (subst IsWellSpaced (sym e) (normal_spaced text p a i)) in (
+      read,
+      subst (λ us. IsFileForest 0 (shebang_text p.shebang ++ printed.text us) p.shebang read) e forest,
+      same ∙ e,
+    )
+
+-- it has a program, with the shebang, of which the normal form is kept
+pub output_program : (text : List ℕ) (p : Program) → AreCharacters text → IsProgram text p
+    → (q : Program) × IsProgram (written p) q × (q.shebang ≡ p.shebang) × (kept q.tree ≡ normal (kept p.tree))
+output_program text p a i =
+    let (read, forest, same) = output_tokens text p a i in
+    let (u, file, keeps) = file_again (plain i.tokens) p.tree i.file in (
+      record { shebang = p.shebang; tree = u },
+      record {
+        tokens = read;
+        forest = forest;
+        file = subst (λ (us : List Token). IsFile us u) (sym same) file;
+      },
+      refl,
+      keeps,
+    )
+
 pub fixed : (text output : List ℕ) → AreCharacters text → IsOutput text output → IsOutput output output
 fixed text output a o =
-    let (u, p, e) = output_program text o.tree a o.program in record {
-      tree = u;
-      program = subst (λ (cs : List ℕ). IsProgram cs u) (sym o.is) p;
-      is = o.is ∙ sym (ap (λ (x : Tree). printed.text (flat (normal x))) e
-          ∙ ap (λ (x : Tree). printed.text (flat x)) (settled.normal_twice Plain (kept o.tree)));
+    let (q, i, shebangs, e) = output_program text o.program a o.is_program in record {
+      program = q;
+      is_program = subst (λ (cs : List ℕ). IsProgram cs q) (sym o.is) i;
+      is = o.is
+          ∙ ap₂ (λ s (x : Tree). shebang_text s ++ printed.text (flat x)) (sym shebangs)
+          (sym (ap normal e ∙ settled.normal_twice Plain (kept o.program.tree)));
     }
 
--- outputs that are the same are those of the same tokens
-same_output : (a b : List ℕ) (t u : Tree) → AreCharacters a → AreCharacters b → IsProgram a t → IsProgram b u
-    → written t ≡ written u → flat (normal (kept t)) ≡ flat (normal (kept u))
-same_output a b t u c d p q e =
-    let (ss, f, g) = output_tokens a t c p in
-    let (ts, h, i) = output_tokens b u d q in
-    sym g ∙ same_tokens 0 0 (written u) ss ts (subst (λ (cs : List ℕ). IsForest 0 cs ss) e f) h ∙ i
+-- the output of a text without shebang begins with none
+none_begins : (base : ℕ) (text : List ℕ) (s : Option (List ℕ)) (ss : List Spanned) → IsFileForest base text s ss
+    → s ≡ None → NoShebang text
+none_begins base text None ss f e = f.0
+none_begins base text (Some line) ss f e = cc
 
-pub one_text : (a b : List ℕ) (t u : Tree) → AreCharacters a → AreCharacters b → IsProgram a t → IsProgram b u
-    → (written t ≡ written u) ↔ (flat (normal (kept t)) ≡ flat (normal (kept u)))
-one_text a b t u c d p q = (same_output a b t u c d p q, ap printed.text)
+pub no_shebang_begins : (text : List ℕ) (p : Program) → AreCharacters text → IsProgram text p → p.shebang ≡ None
+    → NoShebang (written p)
+no_shebang_begins text p a i e =
+    let (read, forest, same) = output_tokens text p a i in
+    none_begins 0 (written p) p.shebang read forest e
 
-pub one_form : (a b : List ℕ) (t u : Tree) → AreCharacters a → AreCharacters b → IsProgram a t → IsProgram b u
-    → (written t ≡ written u) ↔ (normal (kept t) ≡ normal (kept u))
-one_form a b t u c d p q = (
-  λ e. back.same_tokens AFile t u [] [] [] p.file.derived q.file.derived (file_covered t [] p.file.derived)
-      (file_covered u [] q.file.derived) (at_end (normal (kept t))) (at_end (normal (kept u)))
-      (same_output a b t u c d p q e),
-  ap (λ (x : Tree). printed.text (flat x)),
+-- outputs that are the same are those of the same shebang and the same tokens
+same_output : (a b : List ℕ) (p q : Program) → AreCharacters a → AreCharacters b → IsProgram a p → IsProgram b q
+    → written p ≡ written q
+    → (p.shebang ≡ q.shebang) × (flat (normal (kept p.tree)) ≡ flat (normal (kept q.tree)))
+same_output a b p q c d i j e =
+    let (ss, f, g) = output_tokens a p c i in
+    let (ts, h, k) = output_tokens b q d j in
+    let (shebangs, tokens) = same_file 0 0 (written q) p.shebang q.shebang ss ts
+    (subst (λ (cs : List ℕ). IsFileForest 0 cs p.shebang ss) e f) h in
+    (shebangs, sym g ∙ tokens ∙ k)
+
+pub one_text : (a b : List ℕ) (p q : Program) → AreCharacters a → AreCharacters b → IsProgram a p → IsProgram b q
+    → (written p ≡ written q)
+    ↔ ((p.shebang ≡ q.shebang) × (flat (normal (kept p.tree)) ≡ flat (normal (kept q.tree))))
+one_text a b p q c d i j = (
+  same_output a b p q c d i j,
+  λ (s, ts). ap₂ (λ s us. shebang_text s ++ printed.text us) s ts,
+)
+
+pub one_form : (a b : List ℕ) (p q : Program) → AreCharacters a → AreCharacters b → IsProgram a p → IsProgram b q
+    → (written p ≡ written q) ↔ ((p.shebang ≡ q.shebang) × (normal (kept p.tree) ≡ normal (kept q.tree)))
+one_form a b p q c d i j = (
+  λ e.
+      let (s, ts) = same_output a b p q c d i j e in (
+        s,
+        back.same_tokens AFile p.tree q.tree [] [] [] i.file.derived j.file.derived
+            (file_covered p.tree [] i.file.derived) (file_covered q.tree [] j.file.derived)
+            (at_end (normal (kept p.tree))) (at_end (normal (kept q.tree))) ts,
+      ),
+  λ (s, x). ap₂ (λ s (x : Tree). shebang_text s ++ printed.text (flat x)) s x,
 )

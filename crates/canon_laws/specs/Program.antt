@@ -1,7 +1,7 @@
 -- The program of a text, and the text that is written for it.
-use Rattle.std.specs.Prelude.{◌≡◌, ℕ, List, []}
+use Rattle.std.specs.Prelude.{◌≡◌, ℕ, List, [], ◌∷◌, ◌++◌, Option, Some, None}
 use Rattle.proc_macro2.specs.Token.{Spanned, Token, plain}
-use Rattle.proc_macro2.specs.Forest.{IsForest}
+use Rattle.proc_macro2.specs.FileForest.{IsFileForest}
 use Rattle.proc_macro2.specs.Printed as printed
 use Rattle.syn_grammar.specs.Kind.{AFile}
 use Rattle.syn_grammar.specs.Tree.{Tree, flat}
@@ -19,19 +19,33 @@ pub record IsFile (tokens : List Token) (tree : Tree) : Type 0 where
 abbrev pub NoFile : List Token → Type 0
 NoFile tokens = (tree : Tree) → IsFile tokens tree → ⊥
 
--- the tree of a file that the grammar derives from the forest of the text, whose characters stand at
+-- the shebang of a text, without the line feed behind it, if there is one; and the tree of its tokens
+pub record Program : Type 0 where
+  pub shebang : Option (List ℕ)
+  pub tree : Tree
+
+-- the shebang, and the tree of a file that the grammar derives from the forest of the text, whose characters stand at
 -- the positions from 0 on
-pub record IsProgram (text : List ℕ) (tree : Tree) : Type 0 where
+pub record IsProgram (text : List ℕ) (program : Program) : Type 0 where
   pub tokens : List Spanned
-  pub forest : IsForest 0 text tokens
-  pub file : IsFile (plain tokens) tree
+  pub forest : IsFileForest 0 text program.shebang tokens
+  pub file : IsFile (plain tokens) program.tree
+
+-- a shebang, and the line feed that ends it
+abbrev pub shebang_text : Option (List ℕ) → List ℕ
+shebang_text None = []
+shebang_text (Some line) = line ++ 10 ∷ []
 
 -- the text of the normal form of what a syntax tree holds
-abbrev pub written : Tree → List ℕ
-written tree = printed.text (flat (normal (kept tree)))
+abbrev pub tree_text : Tree → List ℕ
+tree_text tree = printed.text (flat (normal (kept tree)))
+
+-- the shebang, and the text of the normal form of what the syntax tree holds
+abbrev pub written : Program → List ℕ
+written program = shebang_text program.shebang ++ tree_text program.tree
 
 -- the canonical form of a text that has a program
 pub record IsOutput (text output : List ℕ) : Type 0 where
-  pub tree : Tree
-  pub program : IsProgram text tree
-  pub is : output ≡ written tree
+  pub program : Program
+  pub is_program : IsProgram text program
+  pub is : output ≡ written program

@@ -2,9 +2,9 @@
 //! the laws.
 
 ghost use Rattle.canon_laws.specs.Faults.{IsSyntaxFault};
-ghost use Rattle.canon_laws.specs.Program.{IsFile, IsOutput, IsProgram, NoFile, written};
+ghost use Rattle.canon_laws.specs.Program.{IsFile, IsOutput, IsProgram, NoFile, Program, written};
 ghost use Rattle.canon_laws.specs.Stands.{AllStandIn};
-ghost use Rattle.proc_macro2.specs.Forest.{IsForest, IsLexicalFault};
+ghost use Rattle.proc_macro2.specs.FileForest.{IsFileForest, IsFileLexicalFault, NoShebang};
 ghost use Rattle.proc_macro2.specs.Spacing.{IsWellSpaced};
 ghost use Rattle.proc_macro2.specs.Token.{Spanned, Token, plain};
 ghost use Rattle.rust_leaf.specs.Leaf.{AreCharacters};
@@ -25,35 +25,37 @@ pub fn files()
 {}
 
 /// The forest of a text decides, wherever the text's characters stand in a map: if its tokens are a file, the tree of
-/// that is the text's program, and if they are none, the text is at fault.
+/// that, with the shebang, is the text's program, and if they are none, the text is at fault.
 pub fn forest_decides()
-    ensures program { (base : ℕ) (text : List ℕ) (ss : List Spanned) (t : Tree) → IsForest base text ss
-        → IsFile (plain ss) t → IsProgram text t }
-    ensures fault { (base : ℕ) (text : List ℕ) (ss : List Spanned) → IsForest base text ss → NoFile (plain ss)
-        → IsSyntaxFault text None }
+    ensures program { (base : ℕ) (text : List ℕ) (ss : List Spanned) (p : Program)
+        → IsFileForest base text p.shebang ss → IsFile (plain ss) p.tree → IsProgram text p }
+    ensures fault { (base : ℕ) (text : List ℕ) (shebang : Option (List ℕ)) (ss : List Spanned)
+        → IsFileForest base text shebang ss → NoFile (plain ss) → IsSyntaxFault text None }
 {}
 
 /// A text has at most one program.
 pub fn one_program()
-    ensures { (text : List ℕ) (t u : Tree) → IsProgram text t → IsProgram text u → t ≡ u }
+    ensures { (text : List ℕ) (p q : Program) → IsProgram text p → IsProgram text q → p ≡ q }
 {}
 
 /// The tokens of a normal form are well spaced, so that they can be written down.
 pub fn normal_form_is_spaced()
-    ensures { (text : List ℕ) (t : Tree) → AreCharacters text → IsProgram text t
-        → IsWellSpaced (flat (normal (kept t))) }
+    ensures { (text : List ℕ) (p : Program) → AreCharacters text → IsProgram text p
+        → IsWellSpaced (flat (normal (kept p.tree))) }
 {}
 
-/// The text of a normal form has its tokens, and no others.
+/// What is written has the shebang and the normal form's tokens, and no others.
 pub fn output_has_tokens()
-    ensures { (text : List ℕ) (t : Tree) → AreCharacters text → IsProgram text t
-        → (read : List Spanned) × IsForest 0 (written t) read × (plain read ≡ flat (normal (kept t))) }
+    ensures { (text : List ℕ) (p : Program) → AreCharacters text → IsProgram text p
+        → (read : List Spanned) × IsFileForest 0 (written p) p.shebang read
+        × (plain read ≡ flat (normal (kept p.tree))) }
 {}
 
-/// Two accepted texts have one output exactly if their normal forms have the same tokens.
+/// Two accepted texts have one output exactly if they have the same shebang and their normal forms the same tokens.
 pub fn one_output_for_the_same_tokens()
-    ensures { (a b : List ℕ) (t u : Tree) → AreCharacters a → AreCharacters b → IsProgram a t → IsProgram b u →
-        (written t ≡ written u) ↔ (flat (normal (kept t)) ≡ flat (normal (kept u))) }
+    ensures { (a b : List ℕ) (p q : Program) → AreCharacters a → AreCharacters b → IsProgram a p → IsProgram b q
+        → (written p ≡ written q) ↔ ((p.shebang ≡ q.shebang)
+        × (flat (normal (kept p.tree)) ≡ flat (normal (kept q.tree)))) }
 {}
 
 /// An output is accepted, and is its own output.
@@ -61,35 +63,44 @@ pub fn output_is_fixed()
     ensures { (text output : List ℕ) → AreCharacters text → IsOutput text output → IsOutput output output }
 {}
 
-/// The syntax tree of an output is the normal form of the one that was written.
+/// The output of a text has the text's shebang, and its syntax tree is the normal form of the one that was written.
 pub fn output_has_normal_form()
-    ensures { (text : List ℕ) (t : Tree) → AreCharacters text → IsProgram text t
-        → (u : Tree) × IsProgram (written t) u × (kept u ≡ normal (kept t)) }
+    ensures { (text : List ℕ) (p : Program) → AreCharacters text → IsProgram text p
+        → (q : Program) × IsProgram (written p) q × (q.shebang ≡ p.shebang)
+        × (kept q.tree ≡ normal (kept p.tree)) }
 {}
 
-/// Two accepted texts have one output exactly if their syntax trees have the same normal form.
+/// Two accepted texts have one output exactly if they have the same shebang and their syntax trees the same normal
+/// form.
 pub fn one_output_for_one_form()
-    ensures { (a b : List ℕ) (t u : Tree) → AreCharacters a → AreCharacters b → IsProgram a t → IsProgram b u →
-        (written t ≡ written u) ↔ (normal (kept t) ≡ normal (kept u)) }
+    ensures { (a b : List ℕ) (p q : Program) → AreCharacters a → AreCharacters b → IsProgram a p → IsProgram b q
+        → (written p ≡ written q) ↔ ((p.shebang ≡ q.shebang)
+        × (normal (kept p.tree) ≡ normal (kept q.tree))) }
+{}
+
+/// The output of a text without shebang begins with none.
+pub fn no_shebang_begins()
+    ensures { (text : List ℕ) (p : Program) → AreCharacters text → IsProgram text p → p.shebang ≡ None
+        → NoShebang (written p) }
 {}
 
 /// A text that is at fault has no program.
 pub fn faults_have_no_program()
-    ensures lexical { (text : List ℕ) (place : LineColumn) (t : Tree) → IsLexicalFault text place → IsProgram text t
-        → ⊥ }
-    ensures syntax { (text : List ℕ) (place : Option LineColumn) (t : Tree) → IsSyntaxFault text place
-        → IsProgram text t → ⊥ }
+    ensures lexical { (text : List ℕ) (place : LineColumn) (p : Program) → IsFileLexicalFault text place
+        → IsProgram text p → ⊥ }
+    ensures syntax { (text : List ℕ) (place : Option LineColumn) (p : Program) → IsSyntaxFault text place
+        → IsProgram text p → ⊥ }
 {}
 
 /// Each text has a program, a lexical fault or a syntax fault.
 pub fn program_or_fault()
-    ensures { (text : List ℕ) → ((t : Tree) × IsProgram text t)
-        ⊎ ((place : LineColumn) × IsLexicalFault text place)
+    ensures { (text : List ℕ) → ((p : Program) × IsProgram text p)
+        ⊎ ((place : LineColumn) × IsFileLexicalFault text place)
         ⊎ ((place : Option LineColumn) × IsSyntaxFault text place) }
 {}
 
 /// Each name of a text's program stands in the text, character by character, at the line and the column where its token
 /// begins.
 pub fn names_stand()
-    ensures { (text : List ℕ) (t : Tree) → (p : IsProgram text t) → AllStandIn text p.tokens (names t) }
+    ensures { (text : List ℕ) (p : Program) → (i : IsProgram text p) → AllStandIn text i.tokens (names p.tree) }
 {}
