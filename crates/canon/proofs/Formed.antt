@@ -1,44 +1,48 @@
 -- From what was read of a text's tokens to what is said of the text.
-use Rattle.std.proofs.Common.{◌≡◌, ℕ, List, ap, ◌∙◌, subst}
+use Rattle.std.proofs.Common.{◌≡◌, ◌++◌, ℕ, List, ap, ◌∙◌, subst}
 use Rattle.std.specs.Prelude.{Option, Some}
 use Rattle.rust_map.specs.declared.place.LineColumn.{LineColumn}
 use Rattle.rust_map.specs.declared.span.Span.{Span}
 use Rattle.rust_map.specs.Sources.{Sources, next_position, next_span, next_spot, spot, with_text}
-use Rattle.proc_macro2.proofs.Lies.{forest_lies}
-use Rattle.proc_macro2.specs.Forest.{IsForest}
+use Rattle.proc_macro2.specs.FileForest.{IsFileForest}
 use Rattle.proc_macro2.specs.Token.{Spanned, plain}
-use Rattle.canon_laws.proofs.Programs.{program_anywhere, same_tokens}
+use Rattle.canon_laws.proofs.FileForests.{file_elsewhere, same_file}
+use Rattle.canon_laws.proofs.Programs.{program_anywhere}
 use Rattle.canon_laws.specs.Faults.{IsSyntaxFault}
-use Rattle.canon_laws.specs.Program.{IsOutput, NoFile}
-use Rattle.canon.proofs.Forests.{elsewhere, forest_behind}
+use Rattle.canon_laws.specs.Program.{IsOutput, NoFile, Program, shebang_text}
+use Rattle.canon.proofs.Forests.{file_behind, file_lies}
 use Rattle.canon.proofs.Places.{placed}
 use Rattle.canon.specs.Places.{span_place}
 use Rattle.canon.specs.Unread.{IsForm}
 
--- what is formed of the tokens of a text is the text's output
-pub output_is : (base : ℕ) (text out : List ℕ) (ss : List Spanned) → IsForest base text ss → IsForm (plain ss) out →
-    IsOutput text out
-output_is base text out ss forest form = record {
-  tree = form.tree;
-  program = program_anywhere base text ss form.tree forest form.file;
-  is = form.is;
-}
+-- what is formed of the tokens of a text, behind the shebang, is the text's output
+pub output_is : (base : ℕ) (text form out : List ℕ) (shebang : Option (List ℕ)) (ss : List Spanned)
+    → IsFileForest base text shebang ss → IsForm (plain ss) form → out ≡ shebang_text shebang ++ form
+    → IsOutput text out
+output_is base text form out shebang ss forest formed is =
+    let p : Program = record { shebang = shebang; tree = formed.tree } in
+    record {
+      program = p;
+      is_program = program_anywhere base text ss p forest formed.file;
+      is = is ∙ ap (λ cs. shebang_text shebang ++ cs) formed.is;
+    }
 
 -- tokens of a text that are no file, and where the map has the one of which an error speaks
-pub syntax_is : (old new : Sources) (text : List ℕ) (ss : List Spanned) (span : Span) (place : Option LineColumn) →
-    IsForest (next_position old) text ss → new ≡ with_text old text →
-    spot new (next_span old text) ≡ Some (next_spot old text) → NoFile (plain ss) →
-    place ≡ span_place new span ss → IsSyntaxFault text place
-syntax_is old new text ss span place forest grown there none is =
+pub syntax_is : (old new : Sources) (text : List ℕ) (shebang : Option (List ℕ)) (ss : List Spanned) (span : Span)
+    (place : Option LineColumn) → IsFileForest (next_position old) text shebang ss → new ≡ with_text old text
+    → spot new (next_span old text) ≡ Some (next_spot old text) → NoFile (plain ss)
+    → place ≡ span_place new span ss → IsSyntaxFault text place
+syntax_is old new text shebang ss span place forest grown there none is =
     let base : ℕ = next_position old in
-    let (ts, here) = elsewhere base 0 text ss forest in
+    let (ts, here) = file_elsewhere base 0 text shebang ss forest in
     let spot_there = subst (λ (m : Sources). spot m (next_span old text) ≡ Some (next_spot old text)) grown there in
-    let (index, same) = placed old text spot_there span ss ts (forest_lies base text ss forest)
-    (forest_behind base text ss ts forest here) in
+    let (index, same) = placed old text spot_there span ss ts (file_lies base text shebang ss forest)
+    (file_behind base text shebang ss ts forest here) in
     record {
+      shebang = shebang;
       tokens = ts;
       forest = here;
-      no_file = subst NoFile (same_tokens base 0 text ss ts forest here) none;
+      no_file = subst NoFile (same_file base 0 text shebang shebang ss ts forest here).1 none;
       index = index;
       there = is ∙ ap (λ (m : Sources). span_place m span ss) grown ∙ same;
     }

@@ -6,8 +6,8 @@ use Rattle.std.specs.Option.{option_map}
 use Rattle.rust_map.specs.Answers.{start_place}
 use Rattle.rust_map.specs.Sources.{Sources, spot, is_held, next_position, next_span, next_spot, with_text}
 use Rattle.rust_map.specs.declared.place.LineColumn.{LineColumn}
-use Rattle.proc_macro2.proofs.Lies.{AllLie, Lies, forest_lies}
-use Rattle.proc_macro2.specs.Forest.{IsForest}
+use Rattle.proc_macro2.proofs.Lies.{AllLie, Lies}
+use Rattle.proc_macro2.specs.FileForest.{IsFileForest}
 use Rattle.proc_macro2.specs.Held.{are_held}
 use Rattle.proc_macro2.specs.Pieces.{edged}
 use Rattle.proc_macro2.specs.Token.{Token, Opens, Closes, Ident, Literal, Punct, Spanned, plain}
@@ -18,7 +18,7 @@ use Rattle.syn_grammar.specs.Tree.{Tree}
 use Rattle.syn_grammar.proofs.NamesStand.{all_stand}
 use Rattle.canon_laws.specs.Faults.{begins_at, token_place}
 use Rattle.canon_laws.specs.Program.{IsFile}
-use Rattle.canon_laws.proofs.Programs.{same_tokens}
+use Rattle.canon_laws.proofs.FileForests.{file_elsewhere, same_file}
 use Rattle.canon.specs.Outline.{AreThere, IsOutline, Line, kind_word, line_for, line_of, lines_for, lines_of}
 use Rattle.canon.specs.Outline.{span_begins}
 use Rattle.canon.specs.declared.outlines.Row.{Row}
@@ -30,7 +30,7 @@ use Rattle.std.proofs.Common.{Bor, Global}
 use Rattle.std.proofs.lemmas.Option.{slice_get_read}
 use Rattle.std.specs.Prelude.{String}
 use Rattle.canon.proofs.Places.{AreBehind, place_span}
-use Rattle.canon.proofs.Forests.{elsewhere, forest_behind}
+use Rattle.canon.proofs.Forests.{file_behind, file_lies}
 
 -- the token behind so many
 got_behind : (before behind : List Token) (t : Token) → slice_get (before ++ t ∷ behind) (length before) ≡ Some t
@@ -143,31 +143,33 @@ module _ (sources : Sources) (text : List ℕ) (there : spot (with_text sources 
   word_there (s ∷ ss) (t ∷ ts) (suc i) cs l b e = word_there ss ts i cs l.1 b.1 e
 
   -- the names of the file that a text's forest is, as the map has them, are the text's outline
-  pub outline_is : (ss : List Spanned) (rows : List Row) → IsForest base text ss
+  pub outline_is : (shebang : Option (List ℕ)) (ss : List Spanned) (rows : List Row)
+      → IsFileForest base text shebang ss
       → (tree : Tree) × IsFile (plain ss) tree × (lines_of rows ≡ lines_for (span_begins grown ss) (names tree))
       → IsOutline text rows
-  outline_is ss rows forest (tree, file, are) =
-      let (ts, here) = elsewhere base 0 text ss forest in
-      let lie = forest_lies base text ss forest in
-      let behind = forest_behind base text ss ts forest here in
+  outline_is shebang ss rows forest (tree, file, are) =
+      let (ts, here) = file_elsewhere base 0 text shebang ss forest in
+      let lie = file_lies base text shebang ss forest in
+      let behind = file_behind base text shebang ss ts forest here in
       record {
-        tree = tree;
-        program = record {
+        program = record { shebang = shebang; tree = tree };
+        is_program = record {
           tokens = ts;
           forest = here;
-          file = subst (λ (us : List Token). IsFile us tree) (same_tokens base 0 text ss ts forest here) file;
+          file = subst (λ (us : List Token). IsFile us tree)
+              (same_file base 0 text shebang shebang ss ts forest here).1 file;
         };
         are = are ∙ agreed _ _ (plain ss) (names tree) (names_there (plain ss) tree file)
             (λ i cs e. word_there ss ts i cs lie behind e);
       }
 
-pub outline_here : (old new : Sources) (text : List ℕ) (ss : List Spanned) (rows : List Row)
-    → IsForest (next_position old) text ss → new ≡ with_text old text
+pub outline_here : (old new : Sources) (text : List ℕ) (shebang : Option (List ℕ)) (ss : List Spanned)
+    (rows : List Row) → IsFileForest (next_position old) text shebang ss → new ≡ with_text old text
     → spot new (next_span old text) ≡ Some (next_spot old text)
     → (tree : Tree) × IsFile (plain ss) tree × (lines_of rows ≡ lines_for (span_begins new ss) (names tree))
     → IsOutline text rows
-outline_here old new text ss rows forest grew there found =
+outline_here old new text shebang ss rows forest grew there found =
     outline_is old text
-    (subst (λ (m : Sources). spot m (next_span old text) ≡ Some (next_spot old text)) grew there) ss rows forest
+    (subst (λ (m : Sources). spot m (next_span old text) ≡ Some (next_spot old text)) grew there) shebang ss rows forest
     (subst (λ (m : Sources). (tree : Tree) × IsFile (plain ss) tree
     × (lines_of rows ≡ lines_for (span_begins m ss) (names tree))) grew found)

@@ -48,4 +48,5 @@ each_stands text tokens (row ∷ rows) (n ∷ ns) e s = (
 
 pub rows_stand : (text : List ℕ) (rows : List Row) → IsOutline text rows → RowsStand text rows
 rows_stand text rows o =
-    each_stands text o.program.tokens rows (names o.tree) o.are (names_stand text o.tree o.program)
+    each_stands text o.is_program.tokens rows (names o.program.tree) o.are
+    (names_stand text o.program o.is_program)

@@ -1,13 +1,13 @@
 -- Why a text has no canonical form, and no outline.
 use Rattle.std.specs.Prelude.{ℕ, List}
-use Rattle.proc_macro2.specs.Forest.{IsLexicalFault}
+use Rattle.proc_macro2.specs.FileForest.{IsFileLexicalFault}
 use Rattle.canon_laws.specs.Faults.{IsSyntaxFault}
 use Rattle.canon.specs.declared.fault.Fault.{Fault}
 use Rattle.canon.specs.declared.fault.Fault.TheVariants.{NotUtf8, Lexical, Syntax, MapFull, Memory, Reading, Writing}
 
 -- what a fault says of the text: that the map is full or memory was refused says nothing of it
 abbrev pub IsFaultOf : List ℕ → Fault → Type 0
-IsFaultOf text (Lexical place) = IsLexicalFault text place
+IsFaultOf text (Lexical place) = IsFileLexicalFault text place
 IsFaultOf text (Syntax error place) = IsSyntaxFault text place
 IsFaultOf text MapFull = Unit {0}
 IsFaultOf text Memory = Unit {0}

@@ -8,11 +8,10 @@ use Rattle.rust_map.specs.declared.place.LineColumn.{LineColumn}
 use Rattle.proc_macro2.specs.Token.{Token, Ident, Spanned}
 use Rattle.syn_grammar.specs.Names.{Named, Name, names}
 use Rattle.syn_grammar.specs.Names as kinds
-use Rattle.syn_grammar.specs.Tree.{Tree}
 use Rattle.gram_read.specs.Names.{name_of}
 use Rattle.gram_read.specs.declared.names.Name as read
 use Rattle.canon_laws.specs.Faults.{token_place}
-use Rattle.canon_laws.specs.Program.{IsProgram}
+use Rattle.canon_laws.specs.Program.{IsProgram, Program}
 use Rattle.canon_laws.specs.Stands.{StandsAt}
 use Rattle.canon.specs.declared.outlines.Row.{Row}
 
@@ -53,9 +52,10 @@ lines_for place ns = map (line_for place) ns
 -- The rows of a text that has a program: one for each of its names, in their order, with the place where the token
 -- begins that is the name.
 pub record IsOutline (text : List ℕ) (rows : List Row) : Type 0 where
-  pub tree : Tree
-  pub program : IsProgram text tree
-  pub are : lines_of rows ≡ lines_for (λ index. token_place text program.tokens (Some index)) (names tree)
+  pub program : Program
+  pub is_program : IsProgram text program
+  pub are : lines_of rows
+      ≡ lines_for (λ index. token_place text is_program.tokens (Some index)) (names program.tree)
 
 -- Each row's name stands in the text, character by character, at the row's line and column.
 abbrev pub RowsStand : List ℕ → List Row → Type 0

@@ -8,7 +8,7 @@ use Rattle.rust_map.specs.Spans.{first_of}
 use Rattle.rust_map.specs.declared.span.Span.{Span}
 use Rattle.proc_macro2.specs.Token.{Spanned}
 use Rattle.proc_macro2.specs.Pieces.{edged}
-use Rattle.proc_macro2.specs.Forest.{IsForest}
+use Rattle.proc_macro2.specs.FileForest.{IsFileForest}
 use Rattle.syn_error.specs.Notes.{place_of}
 use Rattle.syn_buffer.specs.Entries.{same_span}
 use Rattle.canon.specs.declared.fault.Fault.{Fault}
@@ -29,7 +29,8 @@ span_place map span tokens =
 -- its error
 abbrev pub IsPlaced : ℕ → List ℕ → Sources → Fault → Type 0
 IsPlaced base text map (Syntax error place) =
-    (tokens : List Spanned) × IsForest base text tokens × (place ≡ span_place map (place_of error) tokens)
+    (shebang : Option (List ℕ)) × (tokens : List Spanned) × IsFileForest base text shebang tokens
+    × (place ≡ span_place map (place_of error) tokens)
 IsPlaced base text map (Lexical place) = Unit {0}
 IsPlaced base text map MapFull = Unit {0}
 IsPlaced base text map Memory = Unit {0}

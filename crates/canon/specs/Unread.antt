@@ -4,7 +4,7 @@ use Rattle.proc_macro2.specs.Token.{Token}
 use Rattle.syn_grammar.specs.Kind.{Kind}
 use Rattle.syn_grammar.specs.Read.{NoneRead}
 use Rattle.syn_grammar.specs.Tree.{Tree}
-use Rattle.canon_laws.specs.Program.{IsFile, NoFile, written}
+use Rattle.canon_laws.specs.Program.{IsFile, NoFile, tree_text}
 use Rattle.canon.specs.declared.file.Unread.{Unread}
 use Rattle.canon.specs.declared.file.Unread.TheVariants.{Memory, Syntax}
 
@@ -22,4 +22,4 @@ IsUnreadAs k tokens (Syntax wrong) = NoneRead k tokens
 pub record IsForm (tokens : List Token) (output : List ℕ) : Type 0 where
   pub tree : Tree
   pub file : IsFile tokens tree
-  pub is : output ≡ written tree
+  pub is : output ≡ tree_text tree

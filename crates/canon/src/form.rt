@@ -4,11 +4,12 @@ ghost use Rattle.canon.specs.Faults.{IsFaultOf};
 ghost use Rattle.canon.specs.Maps.{IsLeft};
 ghost use Rattle.canon.specs.Places.{IsPlaced};
 ghost use Rattle.canon.specs.Unread.{IsForm, IsUnread};
-ghost use Rattle.canon_laws.specs.Program.{IsOutput};
+ghost use Rattle.canon_laws.specs.Program.{IsOutput, shebang_text};
 ghost use Rattle.proc_macro2.specs.Token.{plain};
 ghost use Rattle.rust_leaf.specs.Leaf.{text_of};
 ghost use Rattle.rust_map.specs.Sources.{next_position, with_text};
-ghost use Rattle.std.specs.Prelude.{◌≡◌, ◌+◌, ◌^◌, ◌≤◌, ◌↔◌, Err, IfErr, IfOk, OnOk, length};
+ghost use Rattle.std.specs.Option.{option_map};
+ghost use Rattle.std.specs.Prelude.{◌≡◌, ◌+◌, ◌^◌, ◌≤◌, ◌↔◌, ◌++◌, ◌∷◌, [], Err, IfErr, IfOk, OnOk, length};
 ghost use Rattle.std.specs.Str.{chars};
 
 use crate::fault::Fault;
@@ -17,18 +18,18 @@ use crate::parts::text_of_file;
 use crate::stands::placed_error;
 use proc_macro2::TokenStream;
 use rust_map::SourceMap;
-use std::alloc::Global;
+use std::alloc::{AllocError, Global};
 use syn_buffer::TokenBuffer;
 
-/// The canonical form of a text: the printed text of the normal form of its program. The text is put behind the others
-/// of the map.
+/// The canonical form of a text: its shebang and a line feed, if it has a shebang, and the printed text of its program's
+/// normal form. The text is put behind the others of the map.
 ///
 /// # Errors
 ///
 /// `MapFull` exactly where the map has no positions left for so many characters. Else `Lexical` exactly where the text
 /// has no forest, with the place of the fault, and `Syntax` exactly where it has a forest and the written grammar
-/// derives no program from it, with the place of the token of which its error speaks. `Memory` only where a growth was
-/// refused.
+/// derives no program from it, with the place of the token of which its error speaks. Places count in the whole text,
+/// the shebang's line included. `Memory` only where a growth was refused.
 ///
 /// `Syntax` leaves the text in the map, and `MapFull` and `Lexical` leave the map as it was. `Memory` does the one or
 /// the other.
@@ -40,9 +41,12 @@ pub fn canonical(alloc: Global, text: &str, map: &mut SourceMap) -> Result<Strin
     ensures map_ok { OnOk result (map.new ≡ with_text map.old (chars text.now)) }
     ensures map_err { IfErr result (IsLeft (chars text.now) map.old map.new) }
 {
-    let stream = TokenStream::from_str(alloc, text, map)?;
+    let (shebang, stream) = match TokenStream::from_file(alloc, text, map) {
+        Ok(file) => file,
+        Err(fault) => return Err(Fault::from(fault)),
+    };
     match formed(alloc, &stream) {
-        Ok(output) => Ok(output),
+        Ok(form) => Ok(with_shebang(alloc, shebang, form)?),
         Err(Unread::Memory) => Err(Fault::Memory),
         Err(Unread::Syntax(wrong)) => {
             let (error, place) = placed_error(alloc, map, &stream, wrong)?;
@@ -58,4 +62,26 @@ fn formed(alloc: Global, stream: &TokenStream) -> Result<String, Unread>
 {
     let buffer = TokenBuffer::new2(alloc, stream, 1)?;
     text_of_file(alloc, buffer.entries())
+}
+
+// The text, behind the shebang and a line feed if there is a shebang.
+fn with_shebang(alloc: Global, shebang: Option<&str>, text: String) -> Result<String, AllocError>
+    ensures { IfOk result (λ s. text_of s
+        ≡ shebang_text (option_map (λ line. chars line.now) shebang.entry) ++ text_of text) }
+{
+    match shebang {
+        None => Ok(text),
+        Some(line) => behind_line(alloc, line, text.as_str()),
+    }
+}
+
+// The text, behind a line and a line feed.
+fn behind_line(alloc: Global, line: &str, text: &str) -> Result<String, AllocError>
+    ensures { IfOk result (λ s. text_of s ≡ (chars line.now ++ 10 ∷ []) ++ chars text.now) }
+{
+    let mut whole = String::new(alloc);
+    whole.push_str(line)?;
+    whole.push('\n')?;
+    whole.push_str(text)?;
+    Ok(whole)
 }

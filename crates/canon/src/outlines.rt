@@ -125,7 +125,8 @@ fn listed(alloc: Global, map: &SourceMap, stream: &TokenStream) -> Result<Vec<Ro
 }
 
 /// The items of a text that have a name, in their order, those of an inline module behind it: of files and inline
-/// modules, at no other depth. The text is put behind the others of the map.
+/// modules, at no other depth. Places count in the whole text, a shebang's line included. The text is put behind the
+/// others of the map.
 ///
 /// # Errors
 ///
@@ -139,7 +140,10 @@ pub fn outline(alloc: Global, text: &str, map: &mut SourceMap) -> Result<Vec<Row
     ensures map_ok { OnOk result (map.new ≡ with_text map.old (chars text.now)) }
     ensures map_err { IfErr result (IsLeft (chars text.now) map.old map.new) }
 {
-    let stream = TokenStream::from_str(alloc, text, map)?;
+    let (_, stream) = match TokenStream::from_file(alloc, text, map) {
+        Ok(file) => file,
+        Err(fault) => return Err(Fault::from(fault)),
+    };
     match listed(alloc, map, &stream) {
         Ok(rows) => Ok(rows),
         Err(Unread::Memory) => Err(Fault::Memory),

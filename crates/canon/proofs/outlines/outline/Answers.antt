@@ -1,4 +1,5 @@
 use Rattle.std.proofs.Common.{subst}
+use Rattle.std.specs.Option.{option_map}
 use Rattle.std.specs.Str.{chars}
 use Rattle.proc_macro2.specs.Token.{plain}
 use Rattle.canon.proofs.Formed.{syntax_is}
@@ -8,21 +9,24 @@ use Rattle.syn_error.specs.Notes.{place_of}
 use Rattle.canon.specs.Unread.{IsUnread}
 use Rattle.canon.proofs.outlines.outline.Goals as goal
 
-pub returns-in-Ok-clause-rows : goal.returns-in-Ok-clause-rows
-returns-in-Ok-clause-rows c =
-    outline_here c.args.map.now c.from_str.new.map (chars c.args.text.now) c.in_ok-stream.stream c.in-Ok.rows.items
-    c.in_ok-stream.ensures.parsed c.in_ok-stream.ensures.map_ok c.in_ok-stream.ensures.spot c.in-Ok.ensures.file
+pub returns-in-Ok-listed-clause-rows : goal.returns-in-Ok-listed-clause-rows
+returns-in-Ok-listed-clause-rows c =
+    outline_here c.args.map.now c.from_file.new.map (chars c.args.text.now)
+    (option_map (λ line. chars line.now) c.in-Ok.file.0) c.in-Ok.file.1 c.in-Ok-listed.rows.items
+    c.in-Ok.ensures.parsed c.in-Ok.ensures.map_ok c.in-Ok.ensures.spot c.in-Ok-listed.ensures.file
 
-pub returns-in-Ok-clause-stand : goal.returns-in-Ok-clause-stand
-returns-in-Ok-clause-stand c =
-    rows_stand (chars c.args.text.now) c.in-Ok.rows.items (outline_here c.args.map.now c.from_str.new.map
-    (chars c.args.text.now) c.in_ok-stream.stream c.in-Ok.rows.items
-    c.in_ok-stream.ensures.parsed c.in_ok-stream.ensures.map_ok c.in_ok-stream.ensures.spot c.in-Ok.ensures.file)
+pub returns-in-Ok-listed-clause-stand : goal.returns-in-Ok-listed-clause-stand
+returns-in-Ok-listed-clause-stand c =
+    rows_stand (chars c.args.text.now) c.in-Ok-listed.rows.items (outline_here c.args.map.now c.from_file.new.map
+    (chars c.args.text.now) (option_map (λ line. chars line.now) c.in-Ok.file.0) c.in-Ok.file.1
+    c.in-Ok-listed.rows.items c.in-Ok.ensures.parsed c.in-Ok.ensures.map_ok c.in-Ok.ensures.spot
+    c.in-Ok-listed.ensures.file)
 
 pub returns-clause-fault : goal.returns-clause-fault
 returns-clause-fault c =
-    syntax_is c.args.map.now c.from_str.new.map (chars c.args.text.now) c.in_ok-stream.stream
+    syntax_is c.args.map.now c.from_file.new.map (chars c.args.text.now)
+    (option_map (λ line. chars line.now) c.in-Ok.file.0) c.in-Ok.file.1
     (place_of c.in_ok-error-in-Err-Syntax.error) c.in_ok-error-in-Err-Syntax.place
-    c.in_ok-stream.ensures.parsed c.in_ok-stream.ensures.map_ok c.in_ok-stream.ensures.spot
-    (subst (IsUnread (plain c.in_ok-stream.stream)) c.in-Err-Syntax.field-0-is c.in-Err-Syntax.ensures.refused)
+    c.in-Ok.ensures.parsed c.in-Ok.ensures.map_ok c.in-Ok.ensures.spot
+    (subst (IsUnread (plain c.in-Ok.file.1)) c.in-Err-Syntax.field-0-is c.in-Err-Syntax.ensures.refused)
     c.in_ok-error-in-Err-Syntax.ensures
