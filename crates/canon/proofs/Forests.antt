@@ -4,13 +4,13 @@ use Rattle.std.proofs.Common.{length-append}
 use Rattle.std.specs.Prelude.{Option, Some, None}
 use Rattle.rust_lex.specs.Piece.{Piece}
 use Rattle.rust_lex.proofs.OneCover.{one_cover}
-use Rattle.proc_macro2.specs.FileForest.{HasShebang, IsFileForest}
+use Rattle.proc_macro2.specs.FileForest.{IsFileForest}
 use Rattle.proc_macro2.specs.Forest.{IsForest}
 use Rattle.proc_macro2.specs.Token.{Spanned}
 use Rattle.proc_macro2.specs.Pieces.{edged}
 use Rattle.proc_macro2.proofs.Followed.{tokens_onto, forest_tokens}
 use Rattle.proc_macro2.proofs.Lies.{AllLie, forest_lies}
-use Rattle.canon_laws.proofs.FileForests.{one_shebang}
+use Rattle.proc_macro2.proofs.Shebangs.{one_shebang, shebang_length}
 use Rattle.canon.proofs.Places.{AreBehind, tokens_behind}
 
 -- the tokens of a text begin as far behind those of other positions as its characters do
@@ -48,21 +48,9 @@ wider low high below above (s ∷ ss) l h a = (
   wider low high below above ss l h a.1,
 )
 
-whole_length : (text line rest : List ℕ) (count : ℕ) → HasShebang text line rest count
-    → length text ≡ count + length rest
-whole_length text line rest count h =
-    omega (
-      arith,
-      ap (λ (cs : List ℕ). length cs) h.front.joined,
-      length-append h.mark (line ++ rest),
-      length-append line rest,
-      length-append h.mark line,
-      h.counted,
-    )
-
 pub file_lies : (base : ℕ) (text : List ℕ) (s : Option (List ℕ)) (ss : List Spanned) → IsFileForest base text s ss
     → AllLie base (base + length text) (map edged ss)
 file_lies base text None ss (none, f) = forest_lies base text ss f
 file_lies base text (Some line) ss f =
     wider (base + f.count) (base + f.count + length f.rest) base (base + length text) (map edged ss) (omega arith)
-    (omega (arith, whole_length text line f.rest f.count f.shebang)) (forest_lies (base + f.count) f.rest ss f.forest)
+    (omega (arith, shebang_length text line f.rest f.count f.shebang)) (forest_lies (base + f.count) f.rest ss f.forest)

@@ -9,9 +9,10 @@ use Rattle.rust_lex.specs.Chars.{begins, is_not_feed, is_white, passes, past}
 use Rattle.rust_lex.specs.Cover.{onto, AreFit, AreFitFront}
 use Rattle.rust_lex.specs.FileCover.{is_front_mark}
 use Rattle.rust_lex.specs.Piece.{Fits, FitsFront, Piece}
-use Rattle.rust_lex.specs.Shebang.{begins_command, begins_shebang, is_gap}
+use Rattle.rust_lex.specs.Shebang.{IsShebang, begins_command, begins_shebang, is_gap}
 use Rattle.rust_lex.specs.declared.piece.PieceKind.{PieceKind}
 use Rattle.rust_lex.specs.declared.piece.PieceKind.TheVariants as piece
+use Rattle.rust_lex.proofs.FileCovers.{without_mark}
 use Rattle.rust_lex.proofs.OneCover.{none_empty}
 use Rattle.proc_macro2.specs.declared.delimiter.Delimiter.TheVariants as delimiter
 use Rattle.proc_macro2.specs.FileForest.{HasShebang, IsFileForest, NoShebang}
@@ -22,10 +23,8 @@ use Rattle.proc_macro2.specs.Printed.{shown}
 use Rattle.proc_macro2.specs.Printed as printed
 use Rattle.proc_macro2.specs.Spacing.{IsWellSpaced, may_stand}
 use Rattle.proc_macro2.specs.Token.{Token, Opens, Closes, Ident, Literal, Punct, Spanned, plain}
-use Rattle.proc_macro2.proofs.Puts.{front_cases}
 use Rattle.lex_laws.proofs.Exactly.{forest_back}
 use Rattle.canon_laws.specs.Program.{shebang_text}
-use Rattle.canon_laws.proofs.FileForests.{a_shebang}
 use Rattle.canon_laws.proofs.Shebangs.{unmarked}
 
 -- no token begins with a byte order mark
@@ -62,17 +61,6 @@ text_unmarked (t ∷ []) a w =
 text_unmarked (t ∷ u ∷ us) a w = shown_unmarked t (u ∷ us) _ a.0 w.0
 
 -- behind a line feed
-within : (ps : List Piece) → AreFitFront ps [] → begins is_front_mark (onto ps []) ≡ false → AreFit ps []
-within [] f n = tt
-within (p ∷ ps) f n =
-    ⊎_elim
-    (λ k.
-    let mark : p.chars ≡ 65279 ∷ [] = subst (λ k. FitsFront k p.chars (onto ps [])) k f.0 in
-    let wrong : true ≡ false = sym (ap (λ cs. begins is_front_mark (cs ++ onto ps [])) mark) ∙ n in
-    cc)
-    (λ i. (i, f.1))
-    (front_cases p.kind p.chars (onto ps []) f.0)
-
 behind_feed : (base : ℕ) (text : List ℕ) (ss : List Spanned) → IsForest (base + 1) text ss
     → begins is_front_mark text ≡ false → IsForest base (10 ∷ text) ss
 unfolding is_white
@@ -80,7 +68,7 @@ behind_feed base text ss f n = record {
   pieces = record { kind = piece.White; chars = 10 ∷ [] } ∷ f.pieces;
   cover = record {
     joined = ap (λ cs. 10 ∷ cs) f.cover.joined;
-    fit = (refl, within f.pieces f.cover.fit (ap (begins is_front_mark) (sym f.cover.joined) ∙ n));
+    fit = (refl, without_mark f.pieces text f.cover.fit f.cover.joined n);
   };
   tokens_are = f.tokens_are;
   matched = f.matched;
@@ -105,7 +93,9 @@ pub is_line : (base : ℕ) (text : List ℕ) (s : Option (List ℕ)) (ss : List 
     → IsLine s
 is_line base text None ss f = tt
 is_line base text (Some line) ss f =
-    let s = a_shebang text line f.rest f.count f.shebang in (s.0, s.1, f.shebang.is_some)
+    let s : IsShebang line f.rest =
+    ⊎_elim (λ s. s) (λ n. absurd (f.shebang.is_some n.0)) f.shebang.front.lined in
+    (s.0, s.1, f.shebang.is_some)
 
 line_shebang : (line text : List ℕ) → IsLine (Some line)
     → HasShebang ((line ++ 10 ∷ []) ++ text) line (10 ∷ text) (length line)

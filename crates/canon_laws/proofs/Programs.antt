@@ -13,7 +13,8 @@ use Rattle.syn_grammar.specs.Normal.{normal}
 use Rattle.item_laws.proofs.Quiet as quiet
 use Rattle.canon_laws.specs.Program.{IsFile, NoFile, IsProgram, Program}
 use Rattle.canon_laws.specs.Faults.{IsSyntaxFault}
-use Rattle.canon_laws.proofs.FileForests.{file_elsewhere, file_or_fault, file_spaced, no_file_forest, same_file}
+use Rattle.proc_macro2.proofs.Files.{file_forest_or_fault, no_file_forest}
+use Rattle.canon_laws.proofs.FileForests.{file_elsewhere, file_spaced, same_file}
 use Rattle.canon_laws.proofs.Files.{one_file, file_or_none}
 
 -- a shebang, and a tree
@@ -89,4 +90,4 @@ program_or_fault text =
     ⊎_elim
     (λ (s, tokens, f). forest_answered text s tokens f)
     (λ (place, f). inr (inl (place, f)))
-    (file_or_fault 0 text)
+    (file_forest_or_fault 0 text)
