@@ -397,7 +397,7 @@ fn turn<'a, R: Rules>(
     before: &[Tree<'a>],
     parts: &'static [Op],
     at: &'a [Entry<'a>],
-    fuel: u128,
+    fuel: usize,
 ) -> Result<(Tree<'a>, &'a [Entry<'a>]), Refusal>
     requires { IsTrue (is_whole at.now) }
     ensures kept { work.new.pending.items ≡ work.old.pending.items }
