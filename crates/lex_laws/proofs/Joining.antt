@@ -1,20 +1,17 @@
 -- The cover and the forest of two texts that a line feed joins.
-use Rattle.std.proofs.Common.{◌≡◌, ℕ, ◌+◌, List, [], ◌∷◌, ◌++◌, length, map, append_assoc, refl, sym, ap, ap₂, ◌∙◌}
+use Rattle.std.proofs.Common.{◌≡◌, ℕ, ◌+◌, List, [], ◌∷◌, ◌++◌, length, append_assoc, refl, sym, ap, ap₂, ◌∙◌}
 use Rattle.std.proofs.Common.{subst, ⊎_elim}
 use Rattle.std.specs.Prelude.{true, false, Option, Some, None}
 use Rattle.std.proofs.lemmas.Bool.{cases_Bool}
 use Rattle.rust_lex.specs.Chars.{begins, is_white}
-use Rattle.rust_lex.specs.Cover.{onto, AreFit, AreFitFront, IsCover}
+use Rattle.rust_lex.specs.Cover.{onto, AreFit, AreFitFront}
 use Rattle.rust_lex.specs.FileCover.{IsFileCover, is_front_mark}
 use Rattle.rust_lex.specs.Piece.{Piece, Fits, FitsFront}
-use Rattle.rust_lex.specs.declared.piece.PieceKind.{PieceKind}
-use Rattle.rust_lex.specs.declared.piece.PieceKind.TheVariants as piece
 use Rattle.rust_lex.proofs.Feeds.{fit_before_feed, fit_front_before_feed, onto_rest}
 use Rattle.rust_lex.specs.Shebang.{begins_shebang}
 use Rattle.rust_lex.proofs.FileCovers.{front_feed, shebang_feed, without_mark}
-use Rattle.proc_macro2.specs.FileForest.{HasShebang, IsFileForest, IsForestBehind, NoShebang}
+use Rattle.proc_macro2.specs.FileForest.{IsFileForest, NoShebang}
 use Rattle.proc_macro2.specs.Forest.{IsForest}
-use Rattle.proc_macro2.specs.Groups.{IsMatched}
 use Rattle.proc_macro2.specs.Pieces.{head, mark_spacing, piece_tokens, span_at, tokens_of}
 use Rattle.proc_macro2.specs.Token.{Spanned, Token, plain}
 use Rattle.proc_macro2.proofs.Covering.{onto_append}
