@@ -30,11 +30,10 @@ same_file a b text None None ss ts (none, f) (other, g) = (refl, same_tokens a b
 same_file a b text None (Some k) ss ts (none, f) g = absurd (shebang_there text k g.rest g.count g.shebang none)
 same_file a b text (Some l) None ss ts f (none, g) = absurd (shebang_there text l f.rest f.count f.shebang none)
 same_file a b text (Some l) (Some k) ss ts f g =
-    let (lines, rests, counts) = one_shebang text l k f.rest g.rest f.count g.count f.shebang g.shebang in
-    (
+    let (lines, rests, counts) = one_shebang text l k f.rest g.rest f.count g.count f.shebang g.shebang in (
       ap Some lines,
       same_tokens (a + f.count) (b + g.count) g.rest ss ts
-      (subst (λ cs. IsForest (a + f.count) cs ss) rests f.forest) g.forest,
+          (subst (λ cs. IsForest (a + f.count) cs ss) rests f.forest) g.forest,
     )
 
 -- a file that has a forest has it also where its characters stand elsewhere

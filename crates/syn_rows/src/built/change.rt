@@ -100,7 +100,11 @@ impl<'o, 'a> Maker<'o, 'a> {
     // A tree in which no other stands.
     fn leaf(&self, tree: &Tree<'a>) -> Tree<'a> {
         match &tree.form {
-            Form::Mark(sign, spacing, span) => made::mark(*sign, self.spacing(*spacing), span.span()),
+            Form::Mark(sign, spacing, span) => made::mark(
+                *sign,
+                self.spacing(*spacing),
+                span.span(),
+            ),
             _ => tree.copy(),
         }
     }
