@@ -3,18 +3,14 @@
 their checks and edits take by the table of docs/maintainers/GATE.md.
 
 Usage: tools/above.py [--list] NAME.., of crates.txt. After a change of words in a `//!` comment that crate alone is
-proved again. tools/above.py --table writes the figures of docs/maintainers/MAINTAINING.md."""
+proved again."""
 import os
-import re
 import sys
 
 sys.dont_write_bytecode = True
-TOP = os.path.join(os.path.dirname(os.path.abspath(__file__)), '..')
+TOP = os.path.dirname(os.path.dirname(os.path.abspath(__file__)))
 sys.path.insert(0, os.path.join(TOP, 'tests'))
 from forecast import all_below, crates, seconds  # noqa: E402
-
-PAGE = os.path.join(TOP, 'docs', 'maintainers', 'MAINTAINING.md')
-ROW = re.compile(r'^\| ((?:`\w+`(?: and )?)+) \| \d+ \| [\d,]+ s \| [\d,]+ s \|$', re.M)
 
 
 def proved_again(changed):
@@ -25,22 +21,7 @@ def proved_again(changed):
     return again, *(sum(took[name][part] for name in again if name in took) for part in (0, 2))
 
 
-def row(found):
-    """A row of the table of what is proved again, by the crates that it names."""
-    again, checks, edits = proved_again(set(re.findall(r'`(\w+)`', found[1])))
-    return f'| {found[1]} | {len(again)} | {checks:,} s | {edits:,} s |'
-
-
-def write_table():
-    with open(PAGE, encoding='utf-8') as file:
-        text = file.read()
-    with open(PAGE, 'w', encoding='utf-8') as file:
-        file.write(ROW.sub(row, text))
-
-
 def main(arguments):
-    if arguments == ['--table']:
-        return write_table()
     is_listed = arguments[:1] == ['--list']
     changed = set(arguments[is_listed:])
     unknown = changed - crates().keys()
