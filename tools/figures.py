@@ -1,7 +1,7 @@
 #!/usr/bin/env python3
-"""Writes the figures that follow from others: in docs/maintainers/GATE.md how many edits each crate has, the sums of its
-tables and of all of them; and in docs/maintainers/MAINTAINING.md what is proved again where some crates change, by
-those tables.
+"""Writes the figures that follow from others: in docs/maintainers/GATE.md the sums of its tables and of all of them, and
+how many edits there are; and in docs/maintainers/MAINTAINING.md what is proved again where some crates change, by those
+tables. It says which crates have other edits than the tables have the time of, as these are to be measured.
 
 Usage: tools/figures.py. tools/generate runs it."""
 import collections
@@ -13,7 +13,7 @@ from above import TOP, proved_again
 
 GATE, MAINTAINING = (os.path.join(TOP, 'docs', 'maintainers', name) for name in ('GATE.md', 'MAINTAINING.md'))
 # A crate's functions, its check, its edits and their checks.
-CRATE = re.compile(r'^\| `(\w+)` \|([^|\n]*)\|([^|\n]*)\|[^|\n]*\|([^|\n]*)\|$', re.M)
+CRATE = re.compile(r'^\| `(\w+)` \|([^|\n]*)\|([^|\n]*)\|([^|\n]*)\|([^|\n]*)\|$', re.M)
 SUM = re.compile(r'^\| all of them \|.*$', re.M)
 WHOLE = re.compile(r'the checks take [\d,]+ s, and the \d+ edits [\d,]+ s')
 FOLDER = re.compile(r'(`crates/NAME/([\w-]+)/\*\.edit`, )\d+')
@@ -40,22 +40,27 @@ def seconds(cell):
     return sum(int(it) for it in re.findall(r'(\d+) s', cell))
 
 
-def summed(part, tried):
-    """A table of a layer with its edits and its sums, and these: seconds of checks, edits, seconds of edits."""
-    rows = [(name, seconds(check), tried[name], seconds(took)) for name, _, check, took in CRATE.findall(part)]
-    checks, count, took = (sum(row[at] for row in rows) for at in (1, 2, 3))
-    part = CRATE.sub(lambda it: f'| `{it[1]}` |{it[2]}|{it[3]}| {tried[it[1]] or ""} |{it[4]}|', part)
-    return SUM.sub(f'| all of them | | {checks} s | {count or ""} | {took or ""}{" s" if took else ""} |', part), \
-        (checks, count, took)
+def summed(rows):
+    """The sums of a table: seconds of checks, edits, seconds of edits."""
+    return [sum(seconds(check) for _, _, check, _, _ in rows), sum(int(count.strip() or 0) for *_, count, _ in rows),
+            sum(seconds(took) for *_, took in rows)]
+
+
+def sum_row(checks, count, took):
+    return f'| all of them | | {checks} s | {count or ""} | {took or ""}{" s" if took else ""} |'
 
 
 def gate(text):
-    """The page of the gate with its counts and sums."""
+    """The page of the gate with its sums and counts."""
     tried, parts, sums = edits('must-fail'), [], [0, 0, 0]
     for part in text.split('\n\n'):
-        if SUM.search(part):
-            part, found = summed(part, tried)
-            sums = [a + b for a, b in zip(sums, found)]
+        rows = CRATE.findall(part) if SUM.search(part) else []
+        if rows:
+            part = SUM.sub(sum_row(*summed(rows)), part)
+            sums = [a + b for a, b in zip(sums, summed(rows))]
+        for name, _, _, count, _ in rows:
+            if tried[name] != int(count.strip() or 0):
+                print(f'{name}: has {tried[name]} edits, and the table the time of {count.strip() or 0}')
         parts.append(part)
     checks, count, took = sums
     text = WHOLE.sub(f'the checks take {checks:,} s, and the {count} edits {took:,} s', '\n\n'.join(parts))
