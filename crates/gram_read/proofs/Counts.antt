@@ -23,18 +23,18 @@ turns_nodes (x ∷ xs) = omega (arith, turns_nodes xs)
 
 pub elements_tokens : (c : ℕ) (es : List Element) (y : Tree)
     → length (flat (elements c es y)) ≡ element_tokens es + length (flat y)
-elements_tokens c [] y = refl
+elements_tokens c [] y = omega arith
 elements_tokens c (e ∷ es) y =
     omega (arith, length-append (flat e.tree) (flat (elements c (e ∷ es) y)), elements_tokens c es y)
 
 pub elements_nodes : (c : ℕ) (es : List Element) (y : Tree)
     → node_count (elements c es y) ≡ element_nodes es + node_count y
-elements_nodes c [] y = refl
+elements_nodes c [] y = omega arith
 elements_nodes c (e ∷ es) y = omega (arith, elements_nodes c es y)
 
 pub seconds_nodes : (n : ℕ) (x : Tree) → node_count (seconds n x) ≡ n + node_count x
-seconds_nodes zero x = refl
-seconds_nodes (suc n) x = ap suc (seconds_nodes n x)
+seconds_nodes zero x = omega arith
+seconds_nodes (suc n) x = omega (arith, seconds_nodes n x)
 
 pub ruleset forms = (
   flat_seconds,

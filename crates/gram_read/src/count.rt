@@ -30,8 +30,8 @@ fn put_off<'t, 'a>(
     left: &mut Vec<Left<'t, 'a>>,
 ) -> Result<usize, AllocError>
     ensures same { IfOk result (λ n. n ≡ index) }
-    ensures tokens { OnOk result (tokens_left left.new.items ≡ tokens_of next + tokens_left left.old.items) }
-    ensures weight { OnOk result (weight_left left.new.items ≡ weight_of next + weight_left left.old.items) }
+    ensures tokens { OnOk result (tokens_left left.new.items ≡ tokens_of next.entry + tokens_left left.old.items) }
+    ensures weight { OnOk result (weight_left left.new.items ≡ weight_of next.entry + weight_left left.old.items) }
 {
     left.push(next)?;
     Ok(index)
@@ -85,10 +85,13 @@ fn put_off_list<'t, 'a>(
     ensures weight { OnOk result (weight_left left.new.items
         < 5 * node_count (list_tree list.now) + 2 + weight_left left.old.items) }
 {
-    if let Some(last) = list.last {
-        put_off(index, Left::Tree(last), left)?;
+    match list.last {
+        Some(last) => {
+            put_off(index, Left::Tree(last), left)?;
+            put_off(index, Left::Elements(list.before), left)
+        }
+        None => put_off(index, Left::Elements(list.before), left),
     }
-    put_off(index, Left::Elements(list.before), left)
 }
 
 // So many tokens, and the marks of a punctuation.
@@ -184,8 +187,8 @@ fn past_next<'t, 'a>(
 ) -> Result<usize, AllocError>
     requires { index + tokens_of next < 2 ^ 64 }
     ensures tokens { IfOk result (λ n. n + tokens_left left.new.items
-        ≡ index + tokens_of next + tokens_left left.old.items) }
-    ensures weight { OnOk result (weight_left left.new.items < weight_of next + weight_left left.old.items) }
+        ≡ index + tokens_of next.entry + tokens_left left.old.items) }
+    ensures weight { OnOk result (weight_left left.new.items < weight_of next.entry + weight_left left.old.items) }
 {
     match next {
         Left::Tree(tree) => past_tree(index, tree, left),
