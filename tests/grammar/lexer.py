@@ -144,6 +144,18 @@ def doc_tokens(inner, text, i):
                   ('Literal', text_of(escaped(text)), i), ('Closes', ('Bracket',), i)]
 
 
+def shebang_end(s):
+    """Behind a text's shebang: its first line, which begins with `#!` and white characters, if there stands one that is
+    no `[` and begins no comment. Where it has none, 0."""
+    start = 1 if s.startswith('\ufeff') else 0
+    end = s.find('\n', start)
+    end = len(s) if end < 0 else end
+    i = start + 2
+    while i < end and s[i] in WHITE:
+        i += 1
+    return end if s.startswith('#!', start) and i < end and s[i] != '[' and not is_comment(s, i) else 0
+
+
 def lex(s):
     """A text's tokens; Lexical where it has none."""
     out, open_groups, i = [], [], 1 if s.startswith('\ufeff') else 0

@@ -16,7 +16,7 @@ import time
 
 sys.dont_write_bytecode = True
 from antt import Fault, items_of
-from lexer import Lexical, lex, string, text
+from lexer import Lexical, lex, shebang_end, string, text
 from reading import Refused, Table, chain, deeply, verbatims
 
 HERE = os.path.dirname(os.path.abspath(__file__))
@@ -186,8 +186,8 @@ def files(table, paths):
     accepted, raw, again, start = 0, 0, 0, time.time()
     for path in sources:
         source = open(path, encoding='utf8', newline='').read()
-        if source.lstrip('\ufeff').startswith('#!') and not source.lstrip('\ufeff')[2:].lstrip().startswith('['):
-            source = '//' + source[source.index('#!') + 2:]
+        front = shebang_end(source)
+        source = ' ' * front + source[front:]
         found = output(table, 'file', source)
         if found[0] is None or found[2]:
             print(f'refused: {path}: {found[1] if found[0] is None else found[2]}')

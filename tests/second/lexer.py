@@ -27,6 +27,18 @@ def is_white(c):
     return c in {'\u200e', '\u200f'} or (c.isspace() and c not in {'\x1c', '\x1d', '\x1e', '\x1f'})
 
 
+def shebang_end(text):
+    """Behind the shebang of a text: its first line, from `#!` on, if behind it and white characters stands one of that
+    line that is no `[` and begins no comment. Where there is none, behind the byte order mark alone."""
+    start = 1 if text.startswith('\ufeff') else 0
+    line = text[start:].split('\n', 1)[0]
+    command = line[2:]
+    while command and is_white(command[0]):
+        command = command[1:]
+    is_one = line.startswith('#!') and command and not command.startswith(('[', '//', '/*'))
+    return start + len(line) if is_one else start
+
+
 def raw_word_end(text, i):
     """Behind the word whose `r#` ends at i, or None."""
     end = word_end(text, i)
@@ -112,7 +124,7 @@ class Lexer:
 
     def __init__(self, text):
         self.text = text
-        self.place = 1 if text.startswith('\ufeff') else 0
+        self.place = shebang_end(text)
         self.open = []
         self.tokens = []
 

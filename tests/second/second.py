@@ -5,7 +5,7 @@ from binding import Binding
 from functions import Functions
 from generics import Generics
 from items import Items
-from lexer import Lexical, lex
+from lexer import Lexical, lex, shebang_end
 from members import Members
 from paths import Paths
 from patterns import Patterns
@@ -41,7 +41,8 @@ def answer(text):
     """What a text is answered: its output, or its fault."""
     try:
         tokens = lex(text)
-        return Answer('accepted', written(Parser(tokens).file()))
+        shebang = text[:shebang_end(text)].lstrip('\ufeff')
+        return Answer('accepted', (shebang and shebang + '\n') + written(Parser(tokens).file()))
     except Lexical as fault:
         return Answer('lexical', place=fault.place)
     except Refused as fault:

@@ -145,7 +145,8 @@ class Maker:
     def characters(self):
         count = self.random.choice([1, 2, 2, 3, 3, 4, 4, 5, 6, 8])
         text = ''.join(self.random.choice(CHARACTERS) for _ in range(count))
-        places = ['m!{%s}', 'm!{%s\n}', 'm!{%s\n}', 'm!{%s}', 'm!{%s %s}', '%s', '\ufeff%s', 'struct S;%s']
+        places = ['m!{%s}', 'm!{%s\n}', 'm!{%s\n}', 'm!{%s}', 'm!{%s %s}', '%s', '\ufeff%s', 'struct S;%s',
+                  '#!%s\nstruct S;']
         return self.random.choice(places).replace('%s', text)
 
     def items(self):
