@@ -3,6 +3,7 @@ use Rattle.std.specs.Prelude.{ℕ, zero, suc, sum_by}
 use Rattle.std.proofs.Common.{◌≡◌, ◌+◌, List, [], ◌∷◌, ◌++◌, refl, ap, ◌∙◌, length, arith}
 use Rattle.std.proofs.lemmas.List.{length-append}
 use Rattle.std.proofs.lemmas.List.Sums.{sum_by-append}
+use Rattle.proc_macro2.specs.Token.{Punct}
 use Rattle.syn_grammar.specs.Tree.{Tree, flat}
 use Rattle.gram_tree.specs.declared.tree.Element.{Element}
 use Rattle.gram_tree.specs.Forms.{elements, seconds, turns}
@@ -25,7 +26,7 @@ pub elements_tokens : (c : ℕ) (es : List Element) (y : Tree)
     → length (flat (elements c es y)) ≡ element_tokens es + length (flat y)
 elements_tokens c [] y = omega arith
 elements_tokens c (e ∷ es) y =
-    omega (arith, length-append (flat e.tree) (flat (elements c (e ∷ es) y)), elements_tokens c es y)
+    omega (arith, length-append (flat e.tree) (Punct c e.spacing ∷ flat (elements c es y)), elements_tokens c es y)
 
 pub elements_nodes : (c : ℕ) (es : List Element) (y : Tree)
     → node_count (elements c es y) ≡ element_nodes es + node_count y

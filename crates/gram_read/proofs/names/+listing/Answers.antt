@@ -9,4 +9,4 @@ put_names-put_turns-requires t c =
     let is = sym c.tree.view_is ∙ ap tree_of c.in-Turns.is in
     let below = turns_below c.in-Turns.turns.now.each.now c.args.tree.now is in
     let counted = ap (λ (x : Tree). length (flat x)) is in
-    (omega (arith, c.decreases, below), c.requires.empty, omega (arith, c.requires.fits, counted))
+    (omega (arith, c.decreases, below), (c.requires.empty, omega (arith, c.requires.fits, counted)))
