@@ -134,7 +134,11 @@ fn begun<'t, 'a>(
         Form::Turns(trees) => Ok(Begun::Held(turns(arena, trees.each, frames)?)),
         Form::Elements(elements) => Ok(Begun::Held(list(arena, elements, frames)?)),
         Form::Verbatim(inner) => Ok(Begun::Held(verbatim(arena, inner)?)),
-        Form::Mark(sign, _, span) => Ok(Begun::Held(made::mark(*sign, Spacing::Alone, *span))),
+        Form::Mark(sign, _, span) => Ok(Begun::Held(made::mark(
+            *sign,
+            Spacing::Alone,
+            span.span(),
+        ))),
         Form::End => Ok(Begun::Held(made::no_turns())),
         Form::Dropped(_) => Ok(Begun::Held(made::nil())),
         _ => Ok(Begun::Held(tree.copy())),

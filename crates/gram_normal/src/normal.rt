@@ -325,7 +325,7 @@ pub fn normal_in<'a>(
         (λ fault. IsFault fault (n.normal_in (position_of position) tree.now)) }
 {
     match &tree.form {
-        Form::Mark(sign, _, span) => Ok(made::mark(*sign, Spacing::Alone, *span)),
+        Form::Mark(sign, _, span) => Ok(made::mark(*sign, Spacing::Alone, span.span())),
         Form::Pair(two) => {
             let front = normal_in(arena, position, &two.front);
             fault_steps::pair(arena, front, normal_in(arena, position, &two.back))

@@ -66,7 +66,7 @@ pub fn put_leaves<'a>(tree: &Tree<'a>, out: &mut Vec<Leaf<'a>>) -> Result<(), Al
     match &tree.form {
         Form::Word(ident) => put(Leaf::Ident(ident), out),
         Form::Literal(literal) => put(Leaf::Literal(literal), out),
-        Form::Mark(sign, spacing, span) => put(Leaf::Punct(*sign, *spacing, *span), out),
+        Form::Mark(sign, spacing, span) => put(Leaf::Punct(*sign, *spacing, span.span()), out),
         Form::Lifetime(held) => put(Leaf::Lifetime(held.span, held.ident), out),
         Form::Raw(kept) => put(Leaf::Raw(kept.entries), out),
         Form::Nil | Form::End => Ok(()),
