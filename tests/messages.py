@@ -8,9 +8,9 @@ and the answers are here, and docs/MESSAGES.md shows them in a table.
   tests/messages.py --page          writes the page's table and the lines of the functions that it names
 
 The first two, and a call with no argument, also see that the page is as it would be written. What is amiss is
-printed, and the status is 1 then. Answers of `canon` were worked out by hand: the place is that of the first token
-that no program has there, and the words are what it must be; what may be left out isn't named. Both columns count
-from 0 here, and so one less than rustc prints."""
+printed, and the status is 1 then. Answers of `canon` were worked out by hand. What is said to be expected is what
+must stand there, and not what may be left out. It is said at the first token that can't be read, or at the word that
+is to blame. Columns count from 0 for both, so rustc's are one less than it prints."""
 import argparse
 import collections
 import json
