@@ -24,9 +24,7 @@ fn chain_of(name: &str) -> Option<Chain> {
         "imported paths" => ("use ", "a::", "a;"),
         "paths" => ("fn f(){", "a::", "a}"),
         "bindings" => ("fn f(){let ", "a@", "a=b;}"),
-        "sums" => ("fn f(){", "a+", "a}"),
         "sums of ranges with attributes" => ("fn f(){a", "+#[a]..", "}"),
-        "calls of calls" => ("fn f(){a", "()", "}"),
         _ => return None,
     };
     Some(Chain { front, turn, back })

@@ -1,6 +1,6 @@
 -- How many tokens trees have, and of how many nodes they are made.
-use Rattle.std.specs.Prelude.{ℕ, zero, suc, sum_by}
-use Rattle.std.proofs.Common.{◌≡◌, ◌+◌, List, [], ◌∷◌, ◌++◌, refl, ap, ◌∙◌, length, arith}
+use Rattle.std.specs.Prelude.{ℕ, zero, suc}
+use Rattle.std.proofs.Common.{◌≡◌, ◌+◌, List, [], ◌∷◌, ◌++◌, refl, length, arith}
 use Rattle.std.proofs.lemmas.List.{length-append}
 use Rattle.std.proofs.lemmas.List.Sums.{sum_by-append}
 use Rattle.proc_macro2.specs.Token.{Punct}
