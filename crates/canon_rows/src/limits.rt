@@ -17,7 +17,7 @@ pub fn holds(alloc: Global, name: &str) -> Result<bool, Unanswered> {
     match name {
         "as many bytes as the limit are taken" => Ok(are_as_many_taken(alloc)),
         "one byte more is too long" => Ok(is_one_more_too_long(alloc)),
-        "no byte is a text of its own" => Ok(is_none_taken(alloc)),
+        "limit 0 takes the empty text alone" => Ok(is_empty_text_alone_taken(alloc)),
         "a reader that never ends is too long" => Ok(is_endless_too_long(alloc)),
         "what is too long is no other fault" => Ok(is_no_other_fault(alloc)),
         _ => Err(Unanswered::NoRow),
@@ -58,7 +58,7 @@ fn is_one_more_too_long(alloc: Global) -> bool {
     is_too_long(&slow) && slow.reads == 9 && is_too_long(&limited(alloc, 8, TEXT, usize::MAX))
 }
 
-fn is_none_taken(alloc: Global) -> bool {
+fn is_empty_text_alone_taken(alloc: Global) -> bool {
     has_written(&limited(alloc, 0, b"", usize::MAX), b"\n")
         && is_too_long(&limited(alloc, 0, b" ", usize::MAX))
 }
