@@ -1,10 +1,10 @@
 #!/usr/bin/env python3
-"""Counts the instructions that programs take for a byte of a text, by valgrind's callgrind: of a hundred kilobytes each of
-types, paths, expressions, data types with constants, and functions, made as `bench/canon.py` makes them, and of one file of
-the standard library. Prints a row for each program. A count is the same whatever else runs on the machine.
+"""Counts the instructions that programs take for a byte of a text, by valgrind's callgrind: of a hundred kilobytes each
+of types, paths, expressions, data types with constants, and functions, made as `bench/canon.py` makes them, and of one
+file of the standard library. Prints a row for each program. A count is the same whatever else runs on the machine.
 
-Usage: bench/instructions.py PROGRAM... A program reads standard input. It fetches Debian's packages rust-src and valgrind
-where they are missing."""
+Usage: bench/instructions.py PROGRAM... A program reads standard input. It fetches Debian's packages rust-src and
+valgrind where they are missing."""
 
 import os
 import re

@@ -1,6 +1,6 @@
-//! The canonical form of the text on standard input, or its outline where the argument is `outline`, in a map that holds
-//! an older text. `tests/refused.sh` runs it once for each allocation, refusing that one: where that was refused to the
-//! call, the older text's spans answer as before, and the call answers once more as it does in a map of its own.
+//! The canonical form of the text on standard input, or its outline where the argument is `outline`, in a map that
+//! holds an older text. `tests/refused.sh` runs it once for each allocation, refusing that one: where that was refused
+//! to the call, the older text's spans answer as before, and the call answers once more as it does in a map of its own.
 #![tactic(auto)]
 
 use canon::{Fault, LineColumn, SourceMap, canonical, outline};

@@ -5,8 +5,8 @@ use proc_macro2::tree::TokenStream;
 use rows::Page;
 use rust_map::source_map::SourceMap;
 
-/// The shebang of a text as a file, if it has one, and the place of the first character of each tree at its top and that
-/// behind its last one; or the fault of the file.
+/// The shebang of a text as a file, if it has one, and the place of the first character of each tree at its top and
+/// that behind its last one; or the fault of the file.
 pub fn file(text: &str, page: &mut Page) {
     let alloc = page.alloc();
     let mut map = SourceMap::new(alloc);

@@ -1,6 +1,6 @@
 //! What the calls of the lexer, of token streams and of leaves give, and after that tables of texts: the edges of the
-//! lexical rules, what is printed, and the calls of leaves and of escapes. What is wanted comes from the rules, and stands
-//! in `stdout`: first line by line what is asked by hand, and then each row of standard input with its answer.
+//! lexical rules, what is printed, and the calls of leaves and of escapes. What is wanted comes from the rules, and
+//! stands in `stdout`: first line by line what is asked by hand, and then each row of standard input with its answer.
 //! `tests/refused.sh` runs it with no rows, once for each allocation, refusing that one.
 //!
 //! With an argument a text of standard input is lexed.

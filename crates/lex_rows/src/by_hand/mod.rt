@@ -1,6 +1,6 @@
 //! Calls of the lexer, of token streams and of leaves that no row can ask: with ample memory they succeed, and this is
-//! what they give, line by line. Where a growth is refused, what was there is as before: `tests/refused.sh` runs them once
-//! for each allocation, refusing that one.
+//! what they give, line by line. Where a growth is refused, what was there is as before: `tests/refused.sh` runs them
+//! once for each allocation, refusing that one.
 //!
 //! - `lines`: lines of a page.
 //! - `shown`: how values are shown on pages of their own, and whether they are as before.
