@@ -21,8 +21,8 @@ use rust_map::SourceMap;
 use std::alloc::{AllocError, Global};
 use syn_buffer::TokenBuffer;
 
-/// The canonical form of a text: its shebang and a line feed, if it has a shebang, and the printed text of its program's
-/// normal form. The text is put behind the others of the map.
+/// The canonical form of a text: its shebang and a line feed, if it has a shebang, and the printed text of its
+/// program's normal form. The text is put behind the others of the map.
 ///
 /// # Errors
 ///
@@ -79,7 +79,8 @@ fn with_shebang(alloc: Global, shebang: Option<&str>, text: String) -> Result<St
 fn behind_line(alloc: Global, line: &str, text: &str) -> Result<String, AllocError>
     ensures { IfOk result (λ s. text_of s ≡ (chars line.now ++ 10 ∷ []) ++ chars text.now) }
 {
-    let mut whole = String::new(alloc);
+    let room = line.len().saturating_add(1).saturating_add(text.len());
+    let mut whole = String::with_capacity(alloc, room)?;
     whole.push_str(line)?;
     whole.push('\n')?;
     whole.push_str(text)?;

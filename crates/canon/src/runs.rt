@@ -59,11 +59,11 @@ pub fn run<R: Read, W: Write>(
     run_limited(alloc, LIMIT, reader, writer)
 }
 
-/// The same as `run`, but of at most `limit` bytes.
+/// The same as `run`, but of at most `limit` bytes, which may be at most 2^30: so many are read, and one more.
 ///
 /// # Errors
 ///
-/// Those of `run`, but `MapFull` exactly past `limit` bytes.
+/// Those of `run`, but `MapFull` exactly past `limit` bytes. Nothing is written then, whatever the text is.
 pub fn run_limited<R: Read, W: Write>(
     alloc: Global,
     limit: usize,
