@@ -79,8 +79,7 @@ fn with_shebang(alloc: Global, shebang: Option<&str>, text: String) -> Result<St
 fn behind_line(alloc: Global, line: &str, text: &str) -> Result<String, AllocError>
     ensures { IfOk result (λ s. text_of s ≡ (chars line.now ++ 10 ∷ []) ++ chars text.now) }
 {
-    let room = line.len().saturating_add(1).saturating_add(text.len());
-    let mut whole = String::with_capacity(alloc, room)?;
+    let mut whole = String::new(alloc);
     whole.push_str(line)?;
     whole.push('\n')?;
     whole.push_str(text)?;
