@@ -18,7 +18,6 @@ use crate::builder::{Builder, Stretch};
 use crate::place::place_behind;
 use crate::put::put;
 use crate::tree::TokenStream;
-use rust_escape::place::next_char;
 use rust_leaf::text_table::TextTable;
 use rust_lex::piece::PieceKind;
 use rust_lex::scan::{is_joint, next_piece, white_end};
