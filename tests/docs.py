@@ -17,7 +17,7 @@ NAMED = re.compile(r'(?<![\w/.(\[-])((?:bench|crates|docs|tests|tools)/[\w./-]*\
 MADE = re.compile(r'/out(/|$)|NAME|^crates/hello\b|^tests/test_item\.rs$')
 # Pages with a text that is put elsewhere, whose links are of that place.
 TEMPLATES = {'tools/grammar_page.md': 'docs/GRAMMAR.md'}
-LISTS = ('docs/maintainers/ARCHITECTURE.md', 'docs/maintainers/GATE.md')
+LISTS = ('docs/maintainers/ARCHITECTURE.md', 'docs/GATE.md')
 
 
 def pages():

@@ -1,5 +1,5 @@
 #!/usr/bin/env python3
-"""How long the gate takes, by the table of docs/maintainers/GATE.md: the order in which `rt ci` runs its checks, side
+"""How long the gate takes, by the table of docs/GATE.md: the order in which `rt ci` runs its checks, side
 by side as far as there are processors and memory, with the seconds that each took when it was measured.
 
 Usage: tests/forecast.py [PROCESSORS [GIGABYTES]], of which a machine of the project's shows 4 and 24.9.
@@ -63,7 +63,7 @@ def loaded(libraries):
 def seconds():
     """What the check of each crate took; how many edits it has, and what they took."""
     row = re.compile(r"\| `(\w+)` \| *\d* *\| (\d+) s[^|]*\| *(\d*) *\| *(?:(\d+) s)?")
-    with open(f"{TOP}/docs/maintainers/GATE.md", encoding="utf-8") as file:
+    with open(f"{TOP}/docs/GATE.md", encoding="utf-8") as file:
         found = [row.match(line) for line in file]
     return {it[1]: (int(it[2]), int(it[3] or 0), int(it[4] or 0)) for it in found if it}
 
@@ -75,7 +75,7 @@ def tasks():
     code = {name: lines(name, ".rt") for name in below}
     for name in sorted(below, key=lambda it: len(below[it])):
         if name not in took:
-            print(f"{name}: not in the table of docs/maintainers/GATE.md, so taken as 60 s")
+            print(f"{name}: not in the table of docs/GATE.md, so taken as 60 s")
         check, count, edits = took.get(name, (60, 0, 0))
         kit = set().union(*(named[it][1] for it in {name, *below[name]}))
         written = code[name] / 1e3 + lines(name, ".antt") / 5e3 + sum(code[it] for it in below[name]) * 8e-5

@@ -1,7 +1,7 @@
 #!/usr/bin/env bash
 # Tries wrong bodies that the prover must refuse, and that the gate doesn't try: crates/NAME/planted/*.edit, which are
 # written as those of must-fail/ are. The first edit of a crate costs a whole check of it, so the gate tries those of a
-# few crates alone (docs/maintainers/GATE.md); whoever changes a crate runs this for it.
+# few crates alone (docs/GATE.md); whoever changes a crate runs this for it.
 # Usage: tests/planted.sh [NAME..]: the crates named, or all that have such edits. It ends with status 0 if each edit is
 # refused. Libraries below a crate are built first, where they aren't.
 set -euo pipefail

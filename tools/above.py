@@ -1,6 +1,6 @@
 #!/usr/bin/env python3
 """What is proved again where some crates change: they and all crates above them, with the seconds of a processor that
-their checks and edits take by the table of docs/maintainers/GATE.md.
+their checks and edits take by the table of docs/GATE.md.
 
 Usage: tools/above.py [--list] NAME.., of crates.txt. After a change of words in a `//!` comment that crate alone is
 proved again."""

@@ -1,5 +1,5 @@
 #!/usr/bin/env python3
-"""Writes the figures that follow from others: in docs/maintainers/GATE.md the sums of its tables and of all of them, and
+"""Writes the figures that follow from others: in docs/GATE.md the sums of its tables and of all of them, and
 how many edits there are; and in docs/maintainers/MAINTAINING.md what is proved again where some crates change, by those
 tables. It says which crates have other edits than the tables have the time of, as these are to be measured.
 
@@ -11,7 +11,8 @@ import re
 
 from above import TOP, proved_again
 
-GATE, MAINTAINING = (os.path.join(TOP, 'docs', 'maintainers', name) for name in ('GATE.md', 'MAINTAINING.md'))
+GATE = os.path.join(TOP, 'docs', 'GATE.md')
+MAINTAINING = os.path.join(TOP, 'docs', 'maintainers', 'MAINTAINING.md')
 # A crate's functions, its check, its edits and their checks.
 CRATE = re.compile(r'^\| `(\w+)` \|([^|\n]*)\|([^|\n]*)\|([^|\n]*)\|([^|\n]*)\|$', re.M)
 SUM = re.compile(r'^\| all of them \|.*$', re.M)
