@@ -1,6 +1,6 @@
 -- From what was formed of a text to the page of its bytes.
-use Rattle.std.proofs.Common.{◌≡◌, ℕ, ◌+◌, ◌^◌, ◌≤◌, List, [], ◌∷◌, ◌++◌, length, refl, sym, ap, ap₂, ◌∙◌, arith}
-use Rattle.std.specs.Prelude.{Result, Ok, Err, IfErr, encode_utf8, encode_utf8_all}
+use Rattle.std.proofs.Common.{◌≡◌, ℕ, ◌+◌, ◌^◌, ◌<◌, ◌≤◌, List, [], ◌∷◌, ◌++◌, length, refl, sym, ap, ap₂, ◌∙◌, arith, subst}
+use Rattle.std.specs.Prelude.{Option, None, Some, Result, Ok, Err, IfErr, IfSome, encode_utf8, encode_utf8_all}
 use Rattle.std.specs.Result.{IsErrAnd}
 use Rattle.std.specs.Str.{chars, IsUtf8}
 use Rattle.std.proofs.lemmas.Str.{encodes-chars, length-le-encodes}
@@ -60,3 +60,27 @@ pub error_as : {A : Type 0} (r : Result A Fault) (P Q : Fault → Type 0) → Is
     IfErr r Q
 error_as (Ok x) P Q e h = absurd e
 error_as (Err f) P Q e h = h f e
+
+-- no more bytes than a limit are no more than the largest
+not_past : (limit : ℕ) (bytes : List ℕ) → length bytes ≤ limit → limit ≤ run_limit → run_limit < length bytes → ⊥
+not_past limit bytes short most past = omega (arith, past, short, most)
+
+-- a fault of bytes by the largest limit is one by each limit that they keep to
+within_limit : (limit : ℕ) (bytes : List ℕ) (fault : Fault) → length bytes ≤ limit → limit ≤ run_limit →
+    IsRunFault run_limit bytes fault → IsRunFault limit bytes fault
+within_limit limit bytes (Lexical place) short most f = (short, f.1, f.2)
+within_limit limit bytes (Syntax error place) short most f = (short, f.1, f.2)
+within_limit limit bytes NotUtf8 short most f = (short, f.1)
+within_limit limit bytes MapFull short most f = absurd (not_past limit bytes short most f)
+within_limit limit bytes Memory short most f = tt
+within_limit limit bytes Reading short most f = tt
+within_limit limit bytes Writing short most f = tt
+
+-- a fault of all bytes that were left is one by the limit that they keep to
+pub fault_of_rest : {A : Type 0} (r : Result A Fault) (rest : Option (List ℕ)) (bytes : List ℕ) (limit : ℕ) →
+    IfSome rest (λ xs. bytes ≡ xs) → length bytes ≤ limit → limit ≤ run_limit →
+    IfErr r (IsRunFault run_limit bytes) → IfErr r (λ f. IfSome rest (λ xs. IsRunFault limit xs f))
+fault_of_rest (Ok x) rest bytes limit all short most f = tt
+fault_of_rest (Err fault) None bytes limit all short most f = tt
+fault_of_rest (Err fault) (Some xs) bytes limit all short most f =
+    subst (λ (ys : List ℕ). IsRunFault limit ys fault) all (within_limit limit bytes fault short most f)

@@ -16,7 +16,7 @@ overflow_sub-entries c =
 
 pub returns-in_err-item-clause-refused : goal.returns-in_err-item-clause-refused
 returns-in_err-item-clause-refused c =
-    let p = err_from_is_err_and c.from_residual.result c.from_residual.ensures.1 in
+    let p = err_from_is_err_and c.from_residual-in_err-item.result c.from_residual-in_err-item.ensures.1 in
     let some : 0 < length c.loop-work.rest.entries.now = search rules in
     rw (p.1, p.2) (items_unread c.args.entries.now c.loop-work.rest.entries.now c.loop-work.pieces.items _
     c.loop-work.invariant some c.in_err-item.ensures.refused)
