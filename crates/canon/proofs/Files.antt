@@ -6,10 +6,10 @@ use Rattle.syn_buffer.specs.declared.entry.Entry.{Entry}
 use Rattle.syn_grammar.specs.Kind.{AFile}
 use Rattle.syn_grammar.specs.Read.{IsDerived, NoneRead}
 use Rattle.syn_grammar.specs.Tree.{Tree}
-use Rattle.gram_read.proofs.Behind.{plain_entries}
-use Rattle.gram_run.specs.Answers.{tokens}
-use Rattle.canon_laws.proofs.Files.{none_read, whole_file}
-use Rattle.canon_laws.specs.Program.{IsFile, NoFile}
+use Rattle.reader_rust.proofs.Behind.{plain_entries}
+use Rattle.reader_steps.specs.Answers.{tokens}
+use Rattle.laws_programs.proofs.Files.{none_read, whole_file}
+use Rattle.laws_programs.specs.Program.{IsFile, NoFile}
 use Rattle.canon.specs.Unread.{IsUnread, IsUnreadAs}
 use Rattle.canon.specs.declared.file.Unread.{Unread}
 use Rattle.canon.specs.declared.file.Unread.TheVariants.{Memory, Syntax}

@@ -6,10 +6,10 @@ use Rattle.rust_map.specs.declared.span.Span.{Span}
 use Rattle.rust_map.specs.Sources.{Sources, next_position, next_span, next_spot, spot, with_text}
 use Rattle.proc_macro2.specs.FileForest.{IsFileForest}
 use Rattle.proc_macro2.specs.Token.{Spanned, plain}
-use Rattle.canon_laws.proofs.FileForests.{file_elsewhere, same_file}
-use Rattle.canon_laws.proofs.Programs.{program_anywhere}
-use Rattle.canon_laws.specs.Faults.{IsSyntaxFault}
-use Rattle.canon_laws.specs.Program.{IsOutput, NoFile, Program, shebang_text}
+use Rattle.laws_programs.proofs.FileForests.{file_elsewhere, same_file}
+use Rattle.laws_programs.proofs.Programs.{program_anywhere}
+use Rattle.laws_programs.specs.Faults.{IsSyntaxFault}
+use Rattle.laws_programs.specs.Program.{IsOutput, NoFile, Program, shebang_text}
 use Rattle.canon.proofs.Forests.{file_behind, file_lies}
 use Rattle.canon.proofs.Places.{placed}
 use Rattle.canon.specs.Places.{span_place}

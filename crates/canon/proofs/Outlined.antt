@@ -16,15 +16,15 @@ use Rattle.syn_buffer.specs.declared.entry.Entry.{Entry}
 use Rattle.syn_grammar.specs.Names.{AllStand, Name, StandsIn, names}
 use Rattle.syn_grammar.specs.Tree.{Tree}
 use Rattle.syn_grammar.proofs.NamesStand.{all_stand}
-use Rattle.canon_laws.specs.Faults.{begins_at, token_place}
-use Rattle.canon_laws.specs.Program.{IsFile}
-use Rattle.canon_laws.proofs.FileForests.{file_elsewhere, same_file}
+use Rattle.laws_programs.specs.Faults.{begins_at, token_place}
+use Rattle.laws_programs.specs.Program.{IsFile}
+use Rattle.laws_programs.proofs.FileForests.{file_elsewhere, same_file}
 use Rattle.canon.specs.Outline.{AreThere, IsOutline, Line, kind_word, line_for, line_of, lines_for, lines_of}
 use Rattle.canon.specs.Outline.{span_begins}
 use Rattle.canon.specs.declared.outlines.Row.{Row}
 use Rattle.std.specs.Slice.{IsItemAt}
-use Rattle.gram_read.specs.Names.{name_of, named_of}
-use Rattle.gram_read.specs.declared.names.Name as read
+use Rattle.reader_rust.specs.Names.{name_of, named_of}
+use Rattle.reader_rust.specs.declared.names.Name as read
 use Rattle.rust_leaf.specs.Leaf.{ident_text, text_of}
 use Rattle.std.proofs.Common.{Bor, Global}
 use Rattle.std.proofs.lemmas.Option.{slice_get_read}

@@ -4,7 +4,7 @@ use Rattle.std.specs.Prelude.{Option, None, Some, Result, Ok, Err, IfErr, IfSome
 use Rattle.std.specs.Result.{IsErrAnd}
 use Rattle.std.specs.Str.{chars, IsUtf8}
 use Rattle.std.proofs.lemmas.Str.{encodes-chars, length-le-encodes}
-use Rattle.canon_laws.specs.Program.{IsOutput}
+use Rattle.laws_programs.specs.Program.{IsOutput}
 use Rattle.canon.specs.Faults.{IsFaultOf}
 use Rattle.canon.specs.Outline.{IsOutline}
 use Rattle.canon.specs.Run.{IsOutlinePage, IsPage, IsRunFault, rows_text, run_limit}

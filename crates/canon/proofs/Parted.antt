@@ -21,14 +21,14 @@ use Rattle.syn_grammar.proofs.Firm.{firm}
 use Rattle.syn_grammar.proofs.Founded.{all_founded}
 use Rattle.syn_grammar.proofs.Theorems as theorems
 use Rattle.syn_grammar.proofs.Whole as whole
-use Rattle.gram_piece.specs.Pieces.{piece_token}
-use Rattle.gram_piece.specs.Sheets.{Shows}
-use Rattle.gram_piece.specs.declared.piece.Piece.{Piece}
-use Rattle.gram_piece.specs.declared.sheet.Sheet.{Sheet}
-use Rattle.gram_read.proofs.Behind.{Left, left, plain_entries, tokens_length}
-use Rattle.gram_run.specs.Answers.{tokens}
-use Rattle.canon_laws.proofs.Files.{items_end}
-use Rattle.canon_laws.specs.Program.{IsFile, NoFile}
+use Rattle.writer_print.specs.Pieces.{piece_token}
+use Rattle.writer_print.specs.Sheets.{Shows}
+use Rattle.writer_print.specs.declared.piece.Piece.{Piece}
+use Rattle.writer_print.specs.declared.sheet.Sheet.{Sheet}
+use Rattle.reader_rust.proofs.Behind.{Left, left, plain_entries, tokens_length}
+use Rattle.reader_steps.specs.Answers.{tokens}
+use Rattle.laws_programs.proofs.Files.{items_end}
+use Rattle.laws_programs.specs.Program.{IsFile, NoFile}
 use Rattle.canon.specs.Parts.{AreLeft, Follow, PrintsAttributes, PrintsItems, all_written, left_of, written_as}
 use Rattle.canon.specs.Unread.{IsForm, IsUnread, IsUnreadAs}
 use Rattle.canon.specs.declared.file.Unread.{Unread}

@@ -16,7 +16,7 @@ use Rattle.rust_lex.specs.Piece.{Piece}
 use Rattle.proc_macro2.specs.Token.{Token, Opens, Closes, Ident, Literal, Punct, Spanned}
 use Rattle.proc_macro2.specs.Pieces.{edge, edged, edged_at, span_at}
 use Rattle.proc_macro2.proofs.Followed.{tokens_before, tokens_onto}
-use Rattle.canon_laws.specs.Faults.{begins_at, token_place}
+use Rattle.laws_programs.specs.Faults.{begins_at, token_place}
 use Rattle.canon.specs.Places.{begins_with, span_place}
 
 -- tokens that begin so many positions behind others

@@ -5,9 +5,9 @@ use Rattle.rust_leaf.specs.Leaf.{text_of}
 use Rattle.rust_map.specs.declared.place.LineColumn.{LineColumn}
 use Rattle.proc_macro2.specs.Token.{Spanned}
 use Rattle.syn_grammar.specs.Names.{Name, names}
-use Rattle.canon_laws.specs.Faults.{token_place}
-use Rattle.canon_laws.specs.Stands.{AllStandIn, NameStands, StandsAt}
-use Rattle.canon_laws.proofs.Standing.{names_stand}
+use Rattle.laws_programs.specs.Faults.{token_place}
+use Rattle.laws_programs.specs.Stands.{AllStandIn, NameStands, StandsAt}
+use Rattle.laws_programs.proofs.Standing.{names_stand}
 use Rattle.canon.specs.Outline.{IsOutline, Line, RowsStand, line_for, line_of, lines_for, lines_of}
 use Rattle.canon.specs.declared.outlines.Row.{Row}
 

@@ -1,7 +1,7 @@
 -- Why a text has no canonical form, and no outline.
 use Rattle.std.specs.Prelude.{ℕ, List}
 use Rattle.proc_macro2.specs.FileForest.{IsFileLexicalFault}
-use Rattle.canon_laws.specs.Faults.{IsSyntaxFault}
+use Rattle.laws_programs.specs.Faults.{IsSyntaxFault}
 use Rattle.canon.specs.declared.fault.Fault.{Fault}
 use Rattle.canon.specs.declared.fault.Fault.TheVariants.{NotUtf8, Lexical, Syntax, MapFull, Memory, Reading, Writing}
 

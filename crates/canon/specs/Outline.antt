@@ -8,11 +8,11 @@ use Rattle.rust_map.specs.declared.place.LineColumn.{LineColumn}
 use Rattle.proc_macro2.specs.Token.{Token, Ident, Spanned}
 use Rattle.syn_grammar.specs.Names.{Named, Name, names}
 use Rattle.syn_grammar.specs.Names as kinds
-use Rattle.gram_read.specs.Names.{name_of}
-use Rattle.gram_read.specs.declared.names.Name as read
-use Rattle.canon_laws.specs.Faults.{token_place}
-use Rattle.canon_laws.specs.Program.{IsProgram, Program}
-use Rattle.canon_laws.specs.Stands.{StandsAt}
+use Rattle.reader_rust.specs.Names.{name_of}
+use Rattle.reader_rust.specs.declared.names.Name as read
+use Rattle.laws_programs.specs.Faults.{token_place}
+use Rattle.laws_programs.specs.Program.{IsProgram, Program}
+use Rattle.laws_programs.specs.Stands.{StandsAt}
 use Rattle.canon.specs.declared.outlines.Row.{Row}
 
 -- the word of a kind of items

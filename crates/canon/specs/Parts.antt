@@ -1,9 +1,9 @@
 -- The parts of a file, read and printed one behind the other.
 use Rattle.std.specs.Prelude.{◌≡◌, ℕ, ◌-◌, ◌<◌, ◌≤◌, true, List, [], ◌∷◌, ◌++◌, drop, length}
 use Rattle.proc_macro2.specs.Token.{Token}
-use Rattle.gram_piece.specs.Sheets.{Shows}
-use Rattle.gram_piece.specs.declared.sheet.Sheet.{Sheet}
-use Rattle.gram_run.specs.Answers.{tokens}
+use Rattle.writer_print.specs.Sheets.{Shows}
+use Rattle.writer_print.specs.declared.sheet.Sheet.{Sheet}
+use Rattle.reader_steps.specs.Answers.{tokens}
 use Rattle.syn_buffer.specs.Entries.{is_whole}
 use Rattle.syn_buffer.specs.declared.entry.Entry.{Entry}
 use Rattle.syn_grammar.specs.Kept.{kept}

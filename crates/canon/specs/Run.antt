@@ -4,7 +4,7 @@ use Rattle.std.specs.Str.{chars, IsUtf8}
 use Rattle.std.specs.Io.KnownBytes.{Appends}
 use Rattle.rust_leaf.specs.Leaf.{text_of}
 use Rattle.rust_map.specs.Faults.{shown_place}
-use Rattle.canon_laws.specs.Program.{IsOutput}
+use Rattle.laws_programs.specs.Program.{IsOutput}
 use Rattle.canon.specs.Faults.{IsFaultOf}
 use Rattle.canon.specs.Outline.{IsOutline}
 use Rattle.canon.specs.declared.outlines.Row.{Row}

@@ -4,7 +4,7 @@ use Rattle.proc_macro2.specs.Token.{Token}
 use Rattle.syn_grammar.specs.Kind.{Kind}
 use Rattle.syn_grammar.specs.Read.{NoneRead}
 use Rattle.syn_grammar.specs.Tree.{Tree}
-use Rattle.canon_laws.specs.Program.{IsFile, NoFile, tree_text}
+use Rattle.laws_programs.specs.Program.{IsFile, NoFile, tree_text}
 use Rattle.canon.specs.declared.file.Unread.{Unread}
 use Rattle.canon.specs.declared.file.Unread.TheVariants.{Memory, Syntax}
 

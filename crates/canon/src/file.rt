@@ -2,21 +2,21 @@
 
 ghost use Rattle.canon.specs.Unread.{IsUnread, IsUnreadAs};
 ghost use Rattle.canon.specs.declared.file.Unread.TheVariants.{Memory};
-ghost use Rattle.canon_laws.specs.Program.{IsFile};
-ghost use Rattle.gram_run.specs.Answers.{tokens};
-ghost use Rattle.gram_table.specs.Kinds.{kind_of};
+ghost use Rattle.laws_programs.specs.Program.{IsFile};
+ghost use Rattle.reader_steps.specs.Answers.{tokens};
+ghost use Rattle.reader_table.specs.Kinds.{kind_of};
 ghost use Rattle.proc_macro2.specs.Token.{plain};
 ghost use Rattle.std.specs.Prelude.{◌≡◌, IfErr, IfOk, IsTrue};
 ghost use Rattle.syn_buffer.specs.Entries.{is_whole, spanned_entries};
 ghost use Rattle.syn_grammar.specs.Read.{IsDerived};
 
-use gram_read::grammar::Grammar;
-use gram_run::pending::Work;
-use gram_run::read::read_with;
-use gram_run::refusal::{Refusal, Wrong};
-use gram_table::kind::Kind;
-use gram_tree::arena::Arena;
-use gram_tree::tree::Tree;
+use reader_rust::grammar::Grammar;
+use reader_steps::pending::Work;
+use reader_steps::read::read_with;
+use reader_steps::refusal::{Refusal, Wrong};
+use reader_table::kind::Kind;
+use reader_tree::arena::Arena;
+use reader_tree::tree::Tree;
 use std::alloc::AllocError;
 use syn_buffer::entry::Entry;
 

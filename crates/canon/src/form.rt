@@ -4,7 +4,7 @@ ghost use Rattle.canon.specs.Faults.{IsFaultOf};
 ghost use Rattle.canon.specs.Maps.{IsLeft};
 ghost use Rattle.canon.specs.Places.{IsPlaced};
 ghost use Rattle.canon.specs.Unread.{IsForm, IsUnread};
-ghost use Rattle.canon_laws.specs.Program.{IsOutput, shebang_text};
+ghost use Rattle.laws_programs.specs.Program.{IsOutput, shebang_text};
 ghost use Rattle.proc_macro2.specs.Token.{plain};
 ghost use Rattle.rust_leaf.specs.Leaf.{text_of};
 ghost use Rattle.rust_map.specs.Sources.{next_position, with_text};

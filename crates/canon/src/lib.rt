@@ -8,7 +8,7 @@
 //! - `stands` (private): where the tokens stand of which errors speak.
 //! - `file` (private): the forms that tokens begin with.
 //! - `parts` (private): the text of a file's normal form, part by part.
-//! - `laws`: laws of programs and their canonical forms, which are those of `canon_laws`.
+//! - `laws`: laws of programs and their canonical forms, which are those of `laws_programs`.
 #![tactic(auto)]
 
 mod causes;
@@ -22,9 +22,9 @@ pub mod runs;
 mod stands;
 
 pub use canon_io::watched::Watched;
-pub use canon_laws::laws;
 pub use fault::{Fault, status, write_fault};
 pub use form::canonical;
+pub use laws_programs::laws;
 pub use outlines::{Row, outline};
 pub use proc_macro2::{LineColumn, MapFull, SourceMap};
 pub use runs::{run, run_limited, run_outline};

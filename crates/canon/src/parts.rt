@@ -3,7 +3,7 @@
 
 ghost use Rattle.canon.specs.Parts.{PrintsAttributes, PrintsItems};
 ghost use Rattle.canon.specs.Unread.{IsForm, IsUnread, IsUnreadAs};
-ghost use Rattle.gram_run.specs.Answers.{tokens};
+ghost use Rattle.reader_steps.specs.Answers.{tokens};
 ghost use Rattle.proc_macro2.specs.Token.{plain};
 ghost use Rattle.rust_leaf.specs.Leaf.{text_of};
 ghost use Rattle.std.specs.Prelude.{◌<◌, length, IfErr, IfOk, IsTrue};
@@ -11,20 +11,20 @@ ghost use Rattle.syn_buffer.specs.Entries.{is_whole, spanned_entries};
 ghost use Rattle.syn_grammar.specs.Kind.{InnerAttributes, Items};
 
 use crate::file::{Unread, read_form, read_form_with};
-use gram_piece::sheet::Sheet;
-use gram_run::pending::Work;
-use gram_table::kind::Kind;
-use gram_tree::arena::Arena;
-use gram_write::write::write;
+use reader_steps::pending::Work;
+use reader_table::kind::Kind;
+use reader_tree::arena::Arena;
 use std::alloc::Global;
 use syn_buffer::entry::Entry;
+use writer_print::sheet::Sheet;
+use writer_read::write::write;
 
-// A batch ends behind the first item with which so many tokens are passed: an arena for each item would cost more, and one
-// for all would hold all trees.
+// A batch ends behind the first item with which so many tokens are passed: an arena for each item would cost more, and
+// one for all would hold all trees.
 const TOKENS: usize = 512;
 
-// Prints what is written of the inner attributes, if any, with which entries begin. The answer is how many entries are left
-// behind them.
+// Prints what is written of the inner attributes, if any, with which entries begin. The answer is how many entries are
+// left behind them.
 fn put_front(alloc: Global, entries: &[Entry], sheet: &mut Sheet) -> Result<usize, Unread>
     requires { IsTrue (is_whole entries.now) }
     ensures put { IfOk result (λ left. PrintsAttributes entries.now left sheet.old sheet.new) }
@@ -44,8 +44,8 @@ struct Rest<'a> {
     entries: &'a [Entry<'a>],
 }
 
-// Prints what is written of a batch of the items with which entries begin, one at least. The answer is how many entries are
-// left behind them. `Syntax` only where the entries are not items to their end.
+// Prints what is written of a batch of the items with which entries begin, one at least. The answer is how many
+// entries are left behind them. `Syntax` only where the entries are not items to their end.
 fn put_items_in<'a>(
     arena: &'a Arena,
     entries: &'a [Entry<'a>],

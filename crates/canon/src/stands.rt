@@ -8,9 +8,9 @@ ghost use Rattle.std.specs.Prelude.{◌≡◌, ◌==◌, ◌&&◌, IfOk};
 ghost use Rattle.syn_buffer.specs.Entries.{same_span};
 ghost use Rattle.syn_error.specs.Notes.{place_of};
 
-use gram_read::said::error;
-use gram_run::refusal::Wrong;
 use proc_macro2::{Group, TokenStream, TokenTree};
+use reader_rust::said::error;
+use reader_steps::refusal::Wrong;
 use rust_map::{LineColumn, SourceMap, Span};
 use std::alloc::{AllocError, Global};
 use syn_error::Error;

@@ -1,7 +1,8 @@
-//! A derive helper: reads structs, unions and enums from standard input, one behind the other, and writes for each, on a
-//! line of its own, an impl that lists the names of its fields as `FIELDS` (of unnamed ones their numbers), or those of
-//! its variants as `VARIANTS`. An impl is built of tokens, and is printed only where it is read back as the same tokens.
-//! Where what stands there is no such item, its place is said and what was wanted there, and nothing is written.
+//! A derive helper: reads structs, unions and enums from standard input, one behind the other, and writes for each, on
+//! a line of its own, an impl that lists the names of its fields as `FIELDS` (of unnamed ones their numbers), or those
+//! of its variants as `VARIANTS`. An impl is built of tokens, and is printed only where it is read back as the same
+//! tokens. Where what stands there is no such item, its place is said and what was wanted there, and nothing is
+//! written.
 //!
 //! - `listing`: the impl.
 //! - `members`: the names of the fields or the variants.

@@ -1,6 +1,6 @@
 //! An expression with its constant arithmetic computed.
 
-ghost use Rattle.gram_tree.specs.Size.{node_count};
+ghost use Rattle.reader_tree.specs.Size.{node_count};
 ghost use Rattle.std.specs.Prelude.{◌≤◌, IfSome};
 
 use crate::number::{computed, written};

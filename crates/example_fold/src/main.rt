@@ -2,7 +2,8 @@
 //! `+`, `-`, `*`, `/` and `%` of integers without suffix computed, and with just the parentheses that it needs then.
 //!
 //! What overflows an `i128`, or divides by zero, stays as it is; so does what stands in the own part of a form, as the
-//! arguments of a call. A line that is no expression is said to be none; at one that is none of tokens the program ends.
+//! arguments of a call. A line that is no expression is said to be none; at one that is none of tokens the program
+//! ends.
 //!
 //! - `number`: the numbers that literals write, and what is computed of them.
 //! - `fold`: an expression with its constant arithmetic computed.

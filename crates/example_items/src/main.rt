@@ -1,6 +1,6 @@
 //! Lists the functions of a file, those in modules, impls, traits and extern blocks too: each with the line and the
-//! column of its name (lines from 1, columns in characters from 0), whether it is `unsafe`, and whether a doc comment or
-//! a `doc` attribute stands in front of it. The file is read from standard input.
+//! column of its name (lines from 1, columns in characters from 0), whether it is `unsafe`, and whether a doc comment
+//! or a `doc` attribute stands in front of it. The file is read from standard input.
 #![tactic(auto)]
 
 use anyhow::Result;

@@ -1,5 +1,5 @@
-//! Reads a language of its own in which Rust's types and expressions stand. Each line of standard input is
-//! `settings NAME { name : Type = expression , .. }`, where the last comma may be missing; behind it stands what was read, a
+//! Reads a language of its own in which Rust's types and expressions stand. Each line of standard input is `settings
+//! NAME { name : Type = expression , .. }`, where the last comma may be missing; behind it stands what was read, a
 //! line for each setting, with the column in which its name begins (from 0), or the fault.
 #![tactic(auto)]
 

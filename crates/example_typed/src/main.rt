@@ -1,13 +1,14 @@
-//! Says by the syntax tree's types what source is made of, and makes new source by them. Standard input has sections: each
-//! begins with a line `== WORD`, which names one of the parts below, and goes to the next such line. What the part answers
-//! is written behind the same line. Each part shows a program of its own; what they have in common is that they are given
-//! the tokens of a text in a buffer, and put their answer behind a text.
+//! Says by the syntax tree's types what source is made of, and makes new source by them. Standard input has sections:
+//! each begins with a line `== WORD`, which names one of the parts below, and goes to the next such line. What the
+//! part answers is written behind the same line. Each part shows a program of its own; what they have in common is
+//! that they are given the tokens of a text in a buffer, and put their answer behind a text.
 //!
-//! - `types`: each line is a type; behind it stands what it is, and below that what the type in it is, at most eight deep.
-//! - `items`: of the functions of a file it says how each takes its receiver, and whether it takes any number of further
-//!   arguments; of each pattern of a parameter or a `let` its type, if one stands there; of its statics whether they may be
-//!   written; and of its impls, its traits and the functions of its impls what is refused where no modifiers may stand, with
-//!   the place.
+//! - `types`: each line is a type; behind it stands what it is, and below that what the type in it is, at most eight
+//!   deep.
+//! - `items`: of the functions of a file it says how each takes its receiver, and whether it takes any number of
+//!   further arguments; of each pattern of a parameter or a `let` its type, if one stands there; of its statics
+//!   whether they may be written; and of its impls, its traits and the functions of its impls what is refused where no
+//!   modifiers may stand, with the place.
 //! - `placed`: where the names of a file's functions and its string literals stand, those in modules, impls, traits and
 //!   blocks too.
 //! - `public`: a source rewriter, which writes a struct with each of its named fields public.

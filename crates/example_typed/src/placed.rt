@@ -1,5 +1,5 @@
-//! Where the names of a file's functions and its string literals stand. What is walked are trees with the entries that they
-//! were read from, so each place is that of the token itself.
+//! Where the names of a file's functions and its string literals stand. What is walked are trees with the entries that
+//! they were read from, so each place is that of the token itself.
 
 use crate::place::place_of;
 use anyhow::Result;

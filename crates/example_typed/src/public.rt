@@ -1,5 +1,5 @@
-//! A struct, written with each of its named fields public. What is read is taken apart by `of`, and what is changed is put
-//! together by `to_tree`, with the other fields as they were.
+//! A struct, written with each of its named fields public. What is read is taken apart by `of`, and what is changed is
+//! put together by `to_tree`, with the other fields as they were.
 
 use anyhow::{Result, anyhow};
 use syn::{

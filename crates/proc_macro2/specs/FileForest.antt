@@ -8,7 +8,7 @@ use Rattle.rust_map.specs.declared.fault.LexFault.TheVariants.{Lex, MapFull, Mem
 use Rattle.rust_map.specs.declared.place.LineColumn.{LineColumn}
 use Rattle.rust_map.specs.Places.{place_of}
 use Rattle.rust_map.specs.Spans.{span_from}
-use Rattle.rust_lex.specs.FileCover.{Front, is_front_mark}
+use Rattle.rust_lex.specs.FileCover.{FileFront, is_front_mark}
 use Rattle.rust_lex.specs.Shebang.{begins_shebang}
 use Rattle.proc_macro2.specs.Token.{Spanned}
 use Rattle.proc_macro2.specs.Forest.{IsFaultBehind, IsForest}
@@ -25,7 +25,7 @@ NoShebang text = begins_shebang (behind_mark text) ≡ false
 -- the line is the shebang in front of the text, and behind it, after so many characters, stands the rest
 pub record HasShebang (text line rest : List ℕ) (count : ℕ) : Type 0 where
   pub mark : List ℕ
-  pub front : Front text mark line rest
+  pub front : FileFront text mark line rest
   pub is_some : line ≢ []
   pub counted : count ≡ length (mark ++ line)
 

@@ -64,6 +64,7 @@ impl Builder {
     }
 
     /// Opens a group, whose mark stands behind so many characters.
+    #[inline(always)]
     pub(crate) fn open(&mut self, delimiter: Delimiter, count: u32) -> Result<(), AllocError>
         ensures { OnOk result (IsOpened self.old self.new delimiter count) }
     {
@@ -77,6 +78,7 @@ impl Builder {
     }
 
     /// Adds a tree to the innermost group.
+    #[inline(always)]
     pub(crate) fn put(&mut self, tree: TokenTree) -> Result<(), AllocError>
         requires { IsStream (tree_tokens tree) }
         ensures { OnOk result (IsAdded self.old self.new (tree_tokens tree)) }

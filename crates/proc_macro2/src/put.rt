@@ -25,6 +25,7 @@ use rust_map::span::Span;
 use std::alloc::AllocError;
 
 // What a pair of marks encloses a group as.
+#[inline(always)]
 fn delimiter_of(marks: GroupMarks) -> Delimiter
     ensures { result ≡ delimiter_of marks }
 {
@@ -35,6 +36,7 @@ fn delimiter_of(marks: GroupMarks) -> Delimiter
     }
 }
 
+#[inline(always)]
 fn spacing_of(joint: bool) -> Spacing
     ensures { result ≡ spacing_of joint }
 {
@@ -46,6 +48,7 @@ fn spacing_of(joint: bool) -> Spacing
 }
 
 // Adds a mark, which is all of a text.
+#[inline(always)]
 fn put_mark(builder: &mut Builder, mark: &str, joint: bool, span: Span) -> Result<(), AllocError>
     requires { (c : ℕ) × (chars mark.now ≡ c ∷ []) × (is_mark c ≡ true) }
     ensures { OnOk result (IsAdded builder.old builder.new
@@ -57,6 +60,7 @@ fn put_mark(builder: &mut Builder, mark: &str, joint: bool, span: Span) -> Resul
     builder.put(TokenTree::Punct(punct))
 }
 
+#[inline(always)]
 fn put_ident(
     builder: &mut Builder,
     table: &mut TextTable,
@@ -70,6 +74,7 @@ fn put_ident(
     builder.put(TokenTree::Ident(ident))
 }
 
+#[inline(always)]
 fn put_literal(
     builder: &mut Builder,
     table: &mut TextTable,

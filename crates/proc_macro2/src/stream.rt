@@ -85,7 +85,8 @@ impl TokenStream {
         Ok(all)
     }
 
-    /// Adds the trees at the end. `AllocError` if memory is refused: the stream is as before, and the trees are dropped.
+    /// Adds the trees at the end. `AllocError` if memory is refused: the stream is as before, and the trees are
+    /// dropped.
     pub fn extend_trees(&mut self, trees: Vec<TokenTree>) -> Result<(), AllocError>
         ensures ok { OnOk result (self.new ≡ self.old ++ flat_map entered trees.items) }
         ensures err { OnErr result (self.new ≡ self.old) }

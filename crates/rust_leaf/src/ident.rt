@@ -171,6 +171,7 @@ impl Ident {
     ///
     /// `AllocError`: memory for the text or its place in the table was refused; what the table keeps stays. None is
     /// taken for a text of at most 16 bytes, or one that the table keeps.
+    #[inline(always)]
     pub fn from_text_in(table: &mut TextTable, text: &str, span: Span) -> Result<Ident, AllocError>
         requires { IsTrue (is_ident_text (chars text.now)) }
         ensures text_is { IfOk result (λ ident. ident_text ident ≡ chars text.now) }

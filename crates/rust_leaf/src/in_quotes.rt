@@ -65,7 +65,8 @@ impl Literal {
 
     /// The same, which shares its text with the leaves of the table that are printed alike.
     ///
-    /// `AllocError`: memory for its text, or for the text's place in the table, was refused; what the table keeps stays.
+    /// `AllocError`: memory for its text, or for the text's place in the table, was refused; what the table keeps
+    /// stays.
     pub fn string_in(table: &mut TextTable, text: &str) -> Result<Literal, AllocError>
         ensures text_is { IfOk result (λ literal. literal_text literal ≡ string_text (chars text.now)) }
         ensures span_is { IfOk result (λ literal. literal_span literal ≡ call_site) }

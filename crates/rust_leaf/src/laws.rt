@@ -20,7 +20,8 @@ ghost use Rattle.std.specs.Cmp.Lexicographic.{slice_cmp};
 ghost use Rattle.std.specs.Fmt.{decimal};
 ghost use Rattle.std.specs.Hash as fed;
 ghost use Rattle.std.specs.Ordering.{nat_cmp};
-ghost use Rattle.std.specs.Prelude.{◌<◌, ◌≡◌, encode_utf8_all, ◌↔◌, ◌++◌, [], ℕ, IsFalse, IsTrue, List, None, codes, true};
+ghost use Rattle.std.specs.Prelude.{◌<◌, ◌≡◌, encode_utf8_all, ◌↔◌, ◌++◌, [], ℕ, IsFalse, IsTrue, List, None, codes};
+ghost use Rattle.std.specs.Prelude.{true};
 ghost use Rattle.std.specs.Str.{chars};
 ghost use Rattle.std.specs.declared.cmp.Ordering.TheVariants.{Equal};
 
@@ -79,7 +80,8 @@ pub fn hash_agrees(a: &Ident, b: &Ident)
 pub fn equality_is_sameness()
     ensures faults { (a b : IdentFault) → IsTrue (⟦<IdentFault as PartialEq>⟧.eq a b) ↔ (a ≡ b) }
     ensures spacings { (a b : Spacing) → IsTrue (⟦<Spacing as PartialEq>⟧.eq a b) ↔ (a ≡ b) }
-    ensures value_faults { (a b : ConversionErrorKind) → IsTrue (⟦<ConversionErrorKind as PartialEq>⟧.eq a b) ↔ (a ≡ b) }
+    ensures value_faults { (a b : ConversionErrorKind)
+        → IsTrue (⟦<ConversionErrorKind as PartialEq>⟧.eq a b) ↔ (a ≡ b) }
 {}
 
 /// Each identifier is printed as one.

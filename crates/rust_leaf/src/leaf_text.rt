@@ -66,6 +66,7 @@ impl LeafText {
     }
 
     /// A text, which shares its memory with the leaves of a table that have it too.
+    #[inline(always)]
     pub(crate) fn new_in(table: &mut TextTable, text: &str) -> Result<LeafText, AllocError>
         ensures { IfOk result (λ leaf. leaf_bytes leaf ≡ text.now) }
     {
@@ -78,6 +79,7 @@ impl LeafText {
     }
 
     // A text that stays in the leaf.
+    #[inline(always)]
     fn short(text: &str) -> LeafText
         requires { length text.now ≤ 16 }
         ensures { leaf_bytes result ≡ text.now }

@@ -50,6 +50,7 @@ impl Literal {
     ///
     /// `AllocError`: memory for the text or its place in the table was refused; what the table keeps stays. None is
     /// taken for a text of at most 16 bytes, or one that the table keeps.
+    #[inline(always)]
     pub fn from_text_in(
         table: &mut TextTable,
         text: &str,

@@ -45,6 +45,7 @@ impl Punct {
     }
 
     /// The mark `ch`, at no place of a text. `is_mark` is the test of its condition.
+    #[inline(always)]
     pub fn new(ch: char, spacing: Spacing) -> Punct
         requires { IsTrue (is_mark ch) }
         ensures char_is { punct_char result ≡ ch }
@@ -80,6 +81,7 @@ impl Punct {
     }
 
     /// Sets where the mark stands, and nothing else.
+    #[inline(always)]
     pub fn set_span(&mut self, span: Span)
         ensures span_is { punct_span self.new ≡ span }
         ensures char_stays { punct_char self.new ≡ punct_char self.old }

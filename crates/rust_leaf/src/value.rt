@@ -198,8 +198,8 @@ impl Literal {
 
     /// The value of a C string literal, as `cstr_value` gives it of the printed text.
     ///
-    /// InvalidLiteralKind: it is no C string literal, or has a suffix. FailedToUnescape: a unit is malformed, or a zero.
-    /// Memory: memory was refused.
+    /// InvalidLiteralKind: it is no C string literal, or has a suffix. FailedToUnescape: a unit is malformed, or a
+    /// zero. Memory: memory was refused.
     pub fn cstr_value(&self, alloc: Global) -> Result<Vec<u8>, ConversionErrorKind>
         ensures value { IfOk result (λ bytes. IsCStrValue (literal_text self.now) bytes.items) }
         ensures kind { result ≡ Err InvalidLiteralKind ↔ (IsCStr (literal_text self.now) → ⊥) }

@@ -8,7 +8,7 @@ use Rattle.rust_lex.specs.Cover.{onto, AreFit, AreFitFront, IsCover}
 use Rattle.rust_lex.specs.Piece.{Piece, PieceKind, Fits, FitsFront, FrontMark, White, Comment, Doc, Open, Close, Mark}
 use Rattle.rust_lex.specs.Piece.{Ident, Literal}
 use Rattle.rust_lex.specs.Shebang.{IsShebang, begins_command, begins_shebang, is_gap}
-use Rattle.rust_lex.specs.FileCover.{Front, IsFileCover, is_front_mark, mark_pieces}
+use Rattle.rust_lex.specs.FileCover.{FileFront, IsFileCover, is_front_mark, mark_pieces}
 use Rattle.rust_lex.proofs.Ends.{past_all}
 use Rattle.rust_lex.proofs.Feeds.{begins_feed, past_feed}
 use Rattle.rust_lex.proofs.OneCover.{one_list}
@@ -86,7 +86,7 @@ one_line line other rest rests e a b =
     a
 
 -- a text has at most one front
-pub one_front : (text m l rest n k rests : List ℕ) → Front text m l rest → Front text n k rests
+pub one_front : (text m l rest n k rests : List ℕ) → FileFront text m l rest → FileFront text n k rests
     → (m ≡ n) × (l ≡ k) × (rest ≡ rests)
 one_front text m l rest n k rests f g =
     let marks : m ≡ n = one_mark text m n (l ++ rest) (k ++ rests) f.joined g.joined f.marked g.marked in
@@ -118,8 +118,8 @@ shebang_feed (a ∷ b ∷ cs) more = ap (λ c. (a == 35 && b == 33) && c)
     (ap begins_command (past_feed is_gap cs more gap_stops) ∙ command_feed (past is_gap cs) more)
 
 -- the front of a text is that of the text, a line feed and more
-pub front_feed : (text mark line rest more : List ℕ) → Front text mark line rest
-    → Front (text ++ 10 ∷ more) mark line (rest ++ 10 ∷ more)
+pub front_feed : (text mark line rest more : List ℕ) → FileFront text mark line rest
+    → FileFront (text ++ 10 ∷ more) mark line (rest ++ 10 ∷ more)
 front_feed text mark line rest more f = record {
   joined = ap (λ t. t ++ 10 ∷ more) f.joined ∙ append_assoc mark (line ++ rest) (10 ∷ more)
       ∙ ap (λ t. mark ++ t) (append_assoc line rest (10 ∷ more));
@@ -180,7 +180,7 @@ from_cover text [] ps is cover =
     is
 from_cover text (c ∷ cs) ps is cover = (cover.joined, cover.fit.1)
 
-pub without_shebang : (text mark rest : List ℕ) → Front text mark [] rest → (ps : List Piece)
+pub without_shebang : (text mark rest : List ℕ) → FileFront text mark [] rest → (ps : List Piece)
     → IsFileCover text mark [] ps ↔ IsCover text (mark_pieces mark ++ ps)
 without_shebang text mark rest front ps = (
   λ file. to_cover text mark ps file.front.marked file.front.joined file.fit,
@@ -188,5 +188,5 @@ without_shebang text mark rest front ps = (
       let (joined, fit) = from_cover text mark ps front.marked cover in
       let behind : rest ≡ onto ps [] =
       append_cancel_left mark rest (onto ps []) (sym front.joined ∙ joined) in
-      record { front = subst (Front text mark []) behind front; fit = fit },
+      record { front = subst (FileFront text mark []) behind front; fit = fit },
 )

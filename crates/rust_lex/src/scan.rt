@@ -159,6 +159,7 @@ fn scan(text: &str, at: usize) -> Option<(PieceKind, usize)>
 
 // The same at any place, the front of the text included.
 #[tactic(auto, using(crate::proofs::Scans::fronts))]
+#[inline(always)]
 fn scan_at(text: &str, at: usize) -> Option<(PieceKind, usize)>
     requires { IsPlace text.now at }
     ensures { IsScanned text.now at result (scan.scan_at at (rest_at text.now at)) }

@@ -89,6 +89,7 @@ impl Span {
 
     /// Its part between two counts of characters from its start, from 0. The first may not be past the
     /// second, nor the second past the span's end: `checked_part` tests both.
+    #[inline(always)]
     pub fn part(&self, from: u32, to: u32) -> Span
         requires ordered { from ≤ to }
         requires within { self.now.start + to ≤ self.now.end }

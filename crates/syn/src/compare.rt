@@ -1,21 +1,21 @@
 //! Whether two trees are the same syntax tree, and the same program.
 
-ghost use Rattle.gram_normal.specs.Separators.{IsFault};
+ghost use Rattle.writer_normal.specs.Separators.{IsFault};
 ghost use Rattle.std.specs.Prelude.{◌≡◌, ◌↔◌, ◌⊎◌, IfErr, IfOk, IsTrue, Ok, true};
 ghost use Rattle.syn_grammar.specs.Kept as k;
 ghost use Rattle.syn_grammar.specs.Normal as n;
 
-use gram_equal::tree::equal;
-use gram_normal::fault::Fault as NormalFault;
-use gram_normal::kept::kept;
-use gram_normal::normal::normal;
-use gram_tree::arena::Arena;
-use gram_tree::tree::Tree;
+use reader_tree::arena::Arena;
+use reader_tree::tree::Tree;
 use std::alloc::AllocError;
+use tree_equal::tree::equal;
+use writer_normal::fault::Fault as NormalFault;
+use writer_normal::kept::kept;
+use writer_normal::normal::normal;
 
-/// Whether two trees are the same but for where their tokens stand, and what else a syntax tree doesn't hold, as how the
-/// last mark of a punctuation is spaced: what syn's `==` asks. Of tokens that are kept as they are the spacing counts.
-/// Where they are one by `equal` it takes no memory.
+/// Whether two trees are the same but for where their tokens stand, and what else a syntax tree doesn't hold, as how
+/// the last mark of a punctuation is spaced: what syn's `==` asks. Of tokens that are kept as they are the spacing
+/// counts. Where they are one by `equal` it takes no memory.
 ///
 /// # Errors
 ///

@@ -1,20 +1,20 @@
 //! Rust source as trees of named parts: the written grammar of every form, read from tokens.
 //!
-//! A tree is walked by what it is (`Tree::node`, `pair`, `turns`, `list`, `group`, `whole`, `kind`) and by the names of
-//! its parts (`Tree::the`, `Tree::has`). Its kinds and names are those of the grammar, which `docs/GRAMMAR.md` shows how
-//! to read; its leaves lend the tokens.
+//! A tree is walked by what it is (`Tree::node`, `pair`, `turns`, `list`, `group`, `whole`, `kind`) and by the names
+//! of its parts (`Tree::the`, `Tree::has`). Its kinds and names are those of the grammar, which `docs/GRAMMAR.md`
+//! shows how to read; its leaves lend the tokens.
 //!
-//! The syntax tree's types stand here under syn's names: `Type::of`, `ItemFn::of` and the like answer one layer of a tree,
-//! whose fields lend its parts. They are those of `syn_part`, `syn_pat`, `syn_ast`, `syn_expr`, `syn_data`, `syn_item`
-//! and `syn_members`.
+//! The syntax tree's types stand here under syn's names: `Type::of`, `ItemFn::of` and the like answer one layer of a
+//! tree, whose fields lend its parts. They are those of `syn_part`, `syn_pat`, `syn_ast`, `syn_expr`, `syn_data`,
+//! `syn_item` and `syn_members`.
 //!
-//! - `parse`, `peek`, `reader`, `stream`, `text`, `typed`, `single`, `optional` (of `syn_read`): forms that are read from
-//!   tokens, as trees and as types; `one_item` (of `syn_typed`), `single_expr` (of `syn_single`): types that are.
+//! - `parse`, `peek`, `reader`, `stream`, `text`, `typed`, `single`, `optional` (of `syn_read`): forms that are read
+//!   from tokens, as trees and as types; `one_item` (of `syn_typed`), `single_expr` (of `syn_single`): types that are.
 //! - `leaf`, `node`, `tokens` (of `syn_tokens`): the leaves and the nodes of a tree, and its tokens as a stream.
 //! - `compare`: whether two trees are the same syntax tree, and whether they are the same program.
 //! - `values`: literals by their class, with what they write, operators and members.
-//! - `laws`: laws of items and of raw tokens, which are those of `item_laws`: how an item of one kind is read by itself,
-//!   invisible groups, and the spacing of raw tokens.
+//! - `laws`: laws of items and of raw tokens, which are those of `laws_items`: how an item of one kind is read by
+//!   itself, invisible groups, and the spacing of raw tokens.
 #![tactic(auto)]
 
 pub mod compare;
@@ -22,36 +22,7 @@ pub mod values;
 
 pub use compare::same;
 pub use compare::same_program;
-pub use gram_build::build::write_in;
-pub use gram_equal::tree::equal;
-pub use gram_normal::fault::Fault as NormalFault;
-pub use gram_normal::normal::normal;
-pub use gram_normal::normal::normal_in;
-pub use gram_normal::normal::put_normal;
-pub use gram_piece::piece::Piece;
-pub use gram_piece::print::print;
-pub use gram_table::kind::Kind;
-pub use gram_table::kind::Place;
-pub use gram_table::kind::Plus;
-pub use gram_table::kind::Position;
-pub use gram_table::kind::Style;
-pub use gram_table::op::Look;
-pub use gram_table::part::Part;
-pub use gram_table::word::Keyword;
-pub use gram_table::word::Literals;
-pub use gram_table::word::Sign;
-pub use gram_table::word::Words;
-pub use gram_tree::arena::Arena;
-pub use gram_tree::made;
-pub use gram_tree::tree::Element;
-pub use gram_tree::tree::Form;
-pub use gram_tree::tree::Separated;
-pub use gram_tree::tree::Three;
-pub use gram_tree::tree::Tree;
-pub use gram_tree::tree::Two;
-pub use gram_write::as_read::put_as_read;
-pub use gram_write::write::write;
-pub use item_laws::laws;
+pub use laws_items::laws;
 pub use proc_macro2::Delimiter;
 pub use proc_macro2::Ident;
 pub use proc_macro2::LineColumn;
@@ -60,6 +31,25 @@ pub use proc_macro2::SourceMap;
 pub use proc_macro2::Spacing;
 pub use proc_macro2::Span;
 pub use proc_macro2::TokenStream;
+pub use reader_table::kind::Kind;
+pub use reader_table::kind::Place;
+pub use reader_table::kind::Plus;
+pub use reader_table::kind::Position;
+pub use reader_table::kind::Style;
+pub use reader_table::op::Look;
+pub use reader_table::part::Part;
+pub use reader_table::word::Keyword;
+pub use reader_table::word::Literals;
+pub use reader_table::word::Sign;
+pub use reader_table::word::Words;
+pub use reader_tree::arena::Arena;
+pub use reader_tree::made;
+pub use reader_tree::tree::Element;
+pub use reader_tree::tree::Form;
+pub use reader_tree::tree::Separated;
+pub use reader_tree::tree::Three;
+pub use reader_tree::tree::Tree;
+pub use reader_tree::tree::Two;
 pub use syn_ast::attributes::AttrStyle;
 pub use syn_ast::attributes::Attribute;
 pub use syn_ast::attributes::InnerAttributes;
@@ -395,3 +385,13 @@ pub use syn_typed::OneTraitItemMacro;
 pub use syn_typed::OneTraitItemType;
 pub use syn_typed::Parse;
 pub use syn_typed::one_item;
+pub use tree_equal::tree::equal;
+pub use writer_built::build::write_in;
+pub use writer_normal::fault::Fault as NormalFault;
+pub use writer_normal::normal::normal;
+pub use writer_normal::normal::normal_in;
+pub use writer_normal::normal::put_normal;
+pub use writer_print::piece::Piece;
+pub use writer_print::print::print;
+pub use writer_read::as_read::put_as_read;
+pub use writer_read::write::write;

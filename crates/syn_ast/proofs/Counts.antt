@@ -3,12 +3,12 @@ use Rattle.std.specs.Prelude.{◌≡◌, ℕ, zero, suc, Bool, true, false, List
 use Rattle.std.proofs.Common.{ap, subst, sym}
 use Rattle.proc_macro2.specs.Token.{Token}
 use Rattle.rust_leaf.specs.declared.punct.Spacing.{Spacing}
-use Rattle.gram_table.specs.Kinds.{kind_of, style_of}
-use Rattle.gram_table.specs.declared.kind.Kind.{Kind}
-use Rattle.gram_table.specs.declared.kind.Kind.TheVariants as kinds
-use Rattle.gram_table.specs.declared.kind.Style.{Style as GivenStyle}
-use Rattle.gram_tree.specs.declared.tree.Element.{Element}
-use Rattle.gram_tree.specs.Forms.{mark_of, seconds, turns, elements, ending}
+use Rattle.reader_table.specs.Kinds.{kind_of, style_of}
+use Rattle.reader_table.specs.declared.kind.Kind.{Kind}
+use Rattle.reader_table.specs.declared.kind.Kind.TheVariants as kinds
+use Rattle.reader_table.specs.declared.kind.Style.{Style as GivenStyle}
+use Rattle.reader_tree.specs.declared.tree.Element.{Element}
+use Rattle.reader_tree.specs.Forms.{mark_of, seconds, turns, elements, ending}
 use Rattle.syn_ast.specs.Paths.{behind_keyword, behind_name, segments, segments_inside}
 use Rattle.syn_ast.specs.Position.{further_count, path_count, segment_count}
 use Rattle.syn_part.specs.Shape.{IsShaped}

@@ -23,7 +23,7 @@ use Rattle.syn_ast.specs.declared.paths.Macro.{Macro}
 use Rattle.syn_ast.specs.declared.paths.ParenthesizedGenericArguments.{ParenthesizedGenericArguments}
 use Rattle.syn_ast.specs.declared.paths.Path.{Path}
 use Rattle.syn_ast.specs.declared.paths.QualifiedPath.{QualifiedPath}
-use Rattle.gram_table.specs.Kinds.{style_of}
+use Rattle.reader_table.specs.Kinds.{style_of}
 use Rattle.syn_grammar.specs.Kind as k
 use Rattle.syn_grammar.specs.Name as n
 use Rattle.syn_grammar.specs.Tree as t

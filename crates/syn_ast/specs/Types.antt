@@ -31,7 +31,7 @@ use Rattle.syn_ast.specs.declared.types.TypeBounds.TheVariants as boundses
 use Rattle.syn_ast.specs.declared.types.«Type».TheVariants as types
 use Rattle.syn_grammar.specs.Part.{choice}
 use Rattle.syn_ast.specs.declared.types.PointerMutability.TheVariants as mutabilities
-use Rattle.gram_table.specs.Kinds.{style_of, plus_of}
+use Rattle.reader_table.specs.Kinds.{style_of, plus_of}
 use Rattle.syn_grammar.specs.Kind as k
 use Rattle.syn_grammar.specs.Name as n
 use Rattle.syn_grammar.specs.Tree as t

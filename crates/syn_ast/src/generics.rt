@@ -14,9 +14,9 @@ ghost use Rattle.syn_grammar.specs.Tree as t;
 ghost use Rattle.syn_part.specs.Leaves.{optional_tree};
 ghost use Rattle.syn_part.specs.Shape.{IsShaped};
 
-use gram_table::kind::Kind;
-use gram_table::part::Part;
-use gram_tree::tree::Tree;
+use reader_table::kind::Kind;
+use reader_table::part::Part;
+use reader_tree::tree::Tree;
 use rust_leaf::ident::Ident;
 use syn_part::leaf::{Lifetime, Mark};
 use syn_part::list::Elements;

@@ -1,6 +1,6 @@
 //! Paths.
 
-ghost use Rattle.gram_table.specs.Kinds.{style_of};
+ghost use Rattle.reader_table.specs.Kinds.{style_of};
 ghost use Rattle.proc_macro2.specs.Token.{Token};
 ghost use Rattle.proc_macro2.specs.declared.delimiter.Delimiter.{Delimiter as GivenDelimiter};
 ghost use Rattle.rust_leaf.specs.Leaf.{ident_text};
@@ -17,9 +17,9 @@ ghost use Rattle.syn_grammar.specs.Tree as t;
 ghost use Rattle.syn_part.specs.Leaves.{lifetime_tree, raw_tree, word_tree};
 ghost use Rattle.syn_part.specs.Shape.{IsShaped};
 
-use gram_table::kind::{Kind, Style};
-use gram_table::part::Part;
-use gram_tree::tree::Tree;
+use reader_table::kind::{Kind, Style};
+use reader_table::part::Part;
+use reader_tree::tree::Tree;
 use rust_leaf::ident::Ident;
 use rust_leaf::literal::Literal;
 use syn_buffer::entry::Entry;

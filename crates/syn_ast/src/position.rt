@@ -4,8 +4,8 @@ ghost use Rattle.std.specs.Prelude.{◌-◌, ◌^◌, ◌≡◌, min};
 ghost use Rattle.syn_ast.specs.Position.{path_count, segment_count, trait_count};
 
 use crate::paths::QSelf;
-use gram_table::kind::Kind;
-use gram_tree::tree::{Form, Tree};
+use reader_table::kind::Kind;
+use reader_tree::tree::{Form, Tree};
 
 // How many segments there are.
 #[tactic(auto, using(crate::proofs::Counts::counts))]

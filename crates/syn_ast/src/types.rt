@@ -14,9 +14,9 @@ ghost use Rattle.syn_grammar.specs.Types.{type_entry};
 ghost use Rattle.syn_part.specs.Leaves.{optional_tree};
 ghost use Rattle.syn_part.specs.Shape.{IsAmong, IsShaped, may_choose};
 
-use gram_table::kind::{Kind, Plus, Style};
-use gram_table::part::Part;
-use gram_tree::tree::Tree;
+use reader_table::kind::{Kind, Plus, Style};
+use reader_table::part::Part;
+use reader_tree::tree::Tree;
 use rust_leaf::ident::Ident;
 use rust_leaf::literal::Literal;
 use syn_part::leaf::{Delimiters, Lifetime, Mark};

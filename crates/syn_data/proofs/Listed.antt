@@ -7,8 +7,8 @@ use Rattle.std.proofs.lemmas.List.{map-append, take_more}
 use Rattle.std.proofs.lemmas.List.FromFn.{map-range_with_len_more}
 use Rattle.std.proofs.lemmas.List.Elements.{All-cons, All-get_or, All-nil}
 use Rattle.proc_macro2.specs.Token.{Token}
-use Rattle.gram_tree.specs.Forms.{elements, ending}
-use Rattle.gram_tree.specs.declared.tree.Element.{Element}
+use Rattle.reader_tree.specs.Forms.{elements, ending}
+use Rattle.reader_tree.specs.declared.tree.Element.{Element}
 use Rattle.syn_grammar.specs.Gram as g
 use Rattle.syn_grammar.specs.Gram.{Gram, many}
 use Rattle.syn_grammar.specs.Kind as k

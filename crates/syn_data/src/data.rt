@@ -9,8 +9,8 @@ ghost use Rattle.syn_grammar.specs.Kind as k;
 ghost use Rattle.syn_part.specs.Shape.{IsShaped};
 
 use crate::part;
-use gram_table::kind::Kind;
-use gram_tree::tree::Tree;
+use reader_table::kind::Kind;
+use reader_tree::tree::Tree;
 use rust_leaf::ident::Ident;
 use syn_error::fault::ParseFault;
 use syn_part::leaf::{Delimiters, Mark};

@@ -1,7 +1,7 @@
 //! What fields are named by: their names, or how many stand before them.
 
-ghost use Rattle.gram_tree.specs.Forms.{ending};
-ghost use Rattle.gram_tree.specs.declared.tree.Element.{Element as GivenElement};
+ghost use Rattle.reader_tree.specs.Forms.{ending};
+ghost use Rattle.reader_tree.specs.declared.tree.Element.{Element as GivenElement};
 ghost use Rattle.proc_macro2.specs.Token.{Token};
 ghost use Rattle.std.specs.List.{All, range_with_len};
 ghost use Rattle.std.specs.Prelude.{◌++◌, ◌∷◌, ◌≡◌, Bool, IfOk, List, OnOk, [], cond, map, ℕ};
@@ -16,8 +16,8 @@ ghost use Rattle.syn_part.specs.Leaves.{list_tree, node_tree};
 ghost use Rattle.syn_part.specs.Shape.{IsShaped};
 
 use crate::data::{Fields, NamedField};
-use gram_table::op::Separator;
-use gram_tree::tree::{Element, Tree};
+use reader_table::op::Separator;
+use reader_tree::tree::{Element, Tree};
 use std::alloc::{AllocError, Global};
 use syn_part::iter::Iter;
 use syn_part::list::Elements;

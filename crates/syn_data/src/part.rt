@@ -12,8 +12,8 @@ ghost use Rattle.syn_part.specs.Kept.{IsFirst};
 ghost use Rattle.syn_part.specs.Leaves.{word_tree};
 ghost use Rattle.syn_part.specs.Shape.{IsShaped};
 
-use gram_table::part::Part;
-use gram_tree::tree::{Form, Tree};
+use reader_table::part::Part;
+use reader_tree::tree::{Form, Tree};
 use rust_leaf::ident::Ident;
 use syn_part::missing::nothing;
 use syn_part::{inside, joined, take};

@@ -8,8 +8,8 @@ use Rattle.syn_grammar.specs.Gram.{mark, punct}
 use Rattle.syn_grammar.specs.Say.{one_sign}
 use Rattle.syn_grammar.specs.Tree as t
 use Rattle.syn_grammar.specs.Tree.{Tree}
-use Rattle.gram_tree.specs.declared.tree.Element.{Element}
-use Rattle.gram_tree.specs.Forms.{mark_of, seconds, turns, elements, ending}
+use Rattle.reader_tree.specs.declared.tree.Element.{Element}
+use Rattle.reader_tree.specs.Forms.{mark_of, seconds, turns, elements, ending}
 use Rattle.syn_part.specs.Shape.{IsShaped}
 use Rattle.syn_expr.specs.ExprForms.{nth_tree}
 use Rattle.syn_part.proofs.Absent.{shaped_never}

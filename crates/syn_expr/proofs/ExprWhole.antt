@@ -9,9 +9,9 @@ use Rattle.syn_grammar.specs.Kind.{Kind, Position, Expression}
 use Rattle.syn_grammar.specs.Tree as t
 use Rattle.syn_grammar.specs.Tree.{Tree, Node, Whole}
 use Rattle.syn_grammar.specs.Forms.{form_of}
-use Rattle.gram_tree.specs.declared.tree.Element.{Element}
-use Rattle.gram_tree.specs.Forms.{mark_of, seconds, turns, elements, ending}
-use Rattle.gram_tree.specs.Shapes.{node_of, whole_of}
+use Rattle.reader_tree.specs.declared.tree.Element.{Element}
+use Rattle.reader_tree.specs.Forms.{mark_of, seconds, turns, elements, ending}
+use Rattle.reader_tree.specs.Shapes.{node_of, whole_of}
 use Rattle.syn_expr.specs.ExprForms.{IsAlone}
 use Rattle.syn_part.specs.Kept.{IsFirst}
 use Rattle.syn_expr.specs.ExprWhole.{IsParen, is_final, is_first, is_lone, which}

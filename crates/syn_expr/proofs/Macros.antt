@@ -1,6 +1,6 @@
 -- The macro of an expression that is a macro and nothing else, and of a statement in which it is called.
-use Rattle.gram_tree.specs.Forms.{seconds}
-use Rattle.gram_tree.specs.Shapes.{alone_of}
+use Rattle.reader_tree.specs.Forms.{seconds}
+use Rattle.reader_tree.specs.Shapes.{alone_of}
 use Rattle.std.proofs.Common.{sym}
 use Rattle.std.specs.Prelude.{◌≡◌, None, Option, Some, refl}
 use Rattle.syn_expr.specs.Statements.{IsCall, called_macro, expression_tree, macro_form}

@@ -20,7 +20,7 @@ use Rattle.syn_grammar.specs.Kind as k
 use Rattle.syn_grammar.specs.Name as n
 use Rattle.syn_grammar.specs.Tree as t
 use Rattle.syn_grammar.specs.Tree.{Tree}
-use Rattle.gram_tree.specs.Forms.{seconds}
+use Rattle.reader_tree.specs.Forms.{seconds}
 
 -- the statements of a block, one behind the other, lone ; among them
 abbrev pub statements : Statements → Tree
@@ -91,8 +91,8 @@ IsCall x y =
     (e : Tree) × (x ≡ seconds 4 (expression_tree y.attrs.now e y.semi_token)) × (called_macro e y.semi_token ≡ Some
     y.mac.now)
 
--- the alternative of a statement that was chosen: a macro is the second, or the fifth, an expression, if it is called there;
--- a let is the third, any other expression the fifth, and an item the first or the fourth, which both read one
+-- the alternative of a statement that was chosen: a macro is the second, or the fifth, an expression, if it is called
+-- there; a let is the third, any other expression the fifth, and an item the first or the fourth, which both read one
 abbrev pub IsAlternative : Tree → Stmt → Type 0
 IsAlternative x (stmts.Item y) = (x ≡ t.First y.now) ⊎ (x ≡ seconds 3 (t.First y.now))
 IsAlternative x (stmts.Macro y) = (x ≡ t.Second (t.First (stmt_macro y))) ⊎ IsCall x y

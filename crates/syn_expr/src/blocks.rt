@@ -16,9 +16,9 @@ ghost use Rattle.syn_part.specs.Shape.{IsShaped};
 use crate::expr::forms;
 use crate::modifiers::BlockModifiers;
 use crate::part;
-use gram_table::kind::Kind;
-use gram_table::part::Part;
-use gram_tree::tree::Tree;
+use reader_table::kind::Kind;
+use reader_table::part::Part;
+use reader_tree::tree::Tree;
 use rust_leaf::ident::Ident;
 use syn_ast::types::AnyPath;
 use syn_part::leaf::{Delimiters, Lifetime, Mark};
@@ -26,8 +26,8 @@ use syn_part::list::{Elements, Turns};
 use syn_part::sub::{Marked, Worded, optional_as_marked, optional_as_worded};
 use syn_part::{inside, joined, take};
 
-/// A section between lines of `---`, at the head of a file. It holds nothing: the grammar has no such section, so none is
-/// read.
+/// A section between lines of `---`, at the head of a file. It holds nothing: the grammar has no such section, so none
+/// is read.
 #[derive(Clone, Copy)]
 pub struct Frontmatter {}
 

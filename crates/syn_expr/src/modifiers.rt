@@ -1,5 +1,5 @@
-//! What may stand beside the parts of a closure, a block or a `let`. So far nothing may: none of them has an option, and
-//! who asks whether one is set is ready for those that come.
+//! What may stand beside the parts of a closure, a block or a `let`. So far nothing may: none of them has an option,
+//! and who asks whether one is set is ready for those that come.
 
 ghost use Rattle.std.specs.Prelude.{◌≡◌, Ok};
 

@@ -10,8 +10,8 @@ ghost use Rattle.syn_grammar.specs.Tree as t;
 ghost use Rattle.syn_part.specs.Leaves.{list_tree, literal_tree, turns_tree, word_tree};
 ghost use Rattle.syn_part.specs.Shape.{IsShaped};
 
-use gram_table::part::Part;
-use gram_tree::tree::Tree;
+use reader_table::part::Part;
+use reader_tree::tree::Tree;
 use rust_leaf::ident::Ident;
 use rust_leaf::literal::Literal;
 use syn_part::leaf::Delimiters;

@@ -1,6 +1,6 @@
 //! Statements.
 
-ghost use Rattle.gram_tree.specs.Forms.{seconds};
+ghost use Rattle.reader_tree.specs.Forms.{seconds};
 ghost use Rattle.proc_macro2.specs.Token.{Token};
 ghost use Rattle.std.specs.Prelude.{Bool, List, MatchOption, false, option_map, ℕ, ◌≡◌};
 ghost use Rattle.syn_expr.specs.Statements.{IsAlternative, IsStmt, bare_macro, block_stmt, called_macro, diverge_tree};
@@ -17,9 +17,9 @@ ghost use Rattle.syn_part.specs.Shape.{IsShaped, may_choose};
 
 use crate::expr::whole::form_of;
 use crate::modifiers::LocalModifiers;
-use gram_table::kind::Kind;
-use gram_table::part::Part;
-use gram_tree::tree::Tree;
+use reader_table::kind::Kind;
+use reader_table::part::Part;
+use reader_tree::tree::Tree;
 use rust_leaf::ident::Ident;
 use syn_part::leaf::Mark;
 use syn_part::list::Turns;
@@ -225,8 +225,8 @@ impl<'t, 'a> Local<'t, 'a> {
     }
 }
 
-/// A macro that is a statement by itself: `a! { b }`, `a! { b };`, `a!(b);`. In parentheses or brackets, and without a `;`,
-/// it is an expression, the last of a block.
+/// A macro that is a statement by itself: `a! { b }`, `a! { b };`, `a!(b);`. In parentheses or brackets, and without a
+/// `;`, it is an expression, the last of a block.
 #[derive(Clone, Copy)]
 pub struct StmtMacro<'t, 'a> {
     /// Its attributes.

@@ -1,8 +1,8 @@
 -- The first and the last element of a list, and their shape; and when a function has no receiver, and no dots.
 use Rattle.std.specs.Prelude.{◌≡◌, ℕ, Bool, List, [], ◌∷◌, ◌++◌, None, Option, Some, refl}
 use Rattle.std.proofs.Common.{◌∙◌, ap, subst, sym}
-use Rattle.gram_tree.specs.declared.tree.Element.{Element}
-use Rattle.gram_tree.specs.Forms.{elements, ending}
+use Rattle.reader_tree.specs.declared.tree.Element.{Element}
+use Rattle.reader_tree.specs.Forms.{elements, ending}
 use Rattle.proc_macro2.specs.Token.{Token}
 use Rattle.proc_macro2.specs.declared.delimiter.Delimiter.{Delimiter}
 use Rattle.std.specs.Option.{option_and_then}

@@ -1,6 +1,6 @@
 -- What a tree that was judged can't be.
 use Rattle.std.specs.Prelude.{◌≢◌, ℕ, zero, suc, refl}
-use Rattle.gram_tree.specs.Forms.{seconds}
+use Rattle.reader_tree.specs.Forms.{seconds}
 use Rattle.syn_grammar.specs.Gram.{Gram, Verdict, judged}
 use Rattle.syn_grammar.specs.Tree as t
 use Rattle.syn_grammar.specs.Tree.{Tree}

@@ -1,7 +1,7 @@
 -- The trees that type aliases and constants are.
-use Rattle.gram_table.specs.Kinds.{place_of}
-use Rattle.gram_table.specs.declared.kind.Place.{Place}
-use Rattle.gram_table.specs.declared.kind.Place.TheVariants as places
+use Rattle.reader_table.specs.Kinds.{place_of}
+use Rattle.reader_table.specs.declared.kind.Place.{Place}
+use Rattle.reader_table.specs.declared.kind.Place.TheVariants as places
 use Rattle.std.specs.Prelude.{◌≡◌, Option}
 use Rattle.syn_part.specs.Leaves.{mark_tree, optional_tree, word_tree}
 use Rattle.syn_part.specs.Sub.{marked_type_tree, marked_value_tree}

@@ -1,7 +1,7 @@
 -- The trees that items are, with their attributes and their visibility.
-use Rattle.gram_table.specs.Kinds.{kind_of, place_of}
-use Rattle.gram_table.specs.declared.kind.Place.{Place}
-use Rattle.gram_table.specs.declared.kind.Place.TheVariants as places
+use Rattle.reader_table.specs.Kinds.{kind_of, place_of}
+use Rattle.reader_table.specs.declared.kind.Place.{Place}
+use Rattle.reader_table.specs.declared.kind.Place.TheVariants as places
 use Rattle.rust_leaf.specs.declared.ident.Ident.{Ident}
 use Rattle.std.specs.Prelude.{◌≡◌, None, Option}
 use Rattle.syn_part.specs.Leaves.{optional_tree}

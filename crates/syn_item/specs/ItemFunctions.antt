@@ -1,6 +1,6 @@
 -- The trees that functions are, with their signatures, parameters and receivers.
-use Rattle.gram_table.specs.Kinds.{place_of}
-use Rattle.gram_table.specs.declared.kind.Place.{Place}
+use Rattle.reader_table.specs.Kinds.{place_of}
+use Rattle.reader_table.specs.declared.kind.Place.{Place}
 use Rattle.std.specs.Prelude.{◌≡◌, ◌≢◌, IfSome, None, Option, Some, codes}
 use Rattle.rust_leaf.specs.Leaf.{ident_text}
 use Rattle.rust_leaf.specs.declared.ident.Ident.{Ident}

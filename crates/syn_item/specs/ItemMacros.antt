@@ -1,7 +1,7 @@
 -- The trees that macros are which stand as items.
-use Rattle.gram_table.specs.Kinds.{place_of}
-use Rattle.gram_table.specs.declared.kind.Place.{Place}
-use Rattle.gram_table.specs.declared.kind.Place.TheVariants as places
+use Rattle.reader_table.specs.Kinds.{place_of}
+use Rattle.reader_table.specs.declared.kind.Place.{Place}
+use Rattle.reader_table.specs.declared.kind.Place.TheVariants as places
 use Rattle.std.specs.Prelude.{None, Option, Some}
 use Rattle.syn_part.specs.Leaves.{mark_tree, optional_tree, raw_tree}
 use Rattle.syn_part.specs.declared.name.Name.{Name}

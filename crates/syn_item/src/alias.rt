@@ -1,6 +1,6 @@
 //! Type aliases.
 
-ghost use Rattle.gram_table.specs.Kinds.{place_of};
+ghost use Rattle.reader_table.specs.Kinds.{place_of};
 ghost use Rattle.proc_macro2.specs.Token.{Token};
 ghost use Rattle.std.specs.Prelude.{◌≡◌, ◌↔◌, Bool, IfSome, List, MatchOption, true, ℕ};
 ghost use Rattle.syn_grammar.specs.Gram as g;
@@ -13,9 +13,9 @@ ghost use Rattle.syn_item.specs.ItemAliases.{IsLate, IsOrderIn, early_tree, eith
 ghost use Rattle.syn_item.specs.ItemAliases.{late_tree, type_end_tree};
 ghost use Rattle.syn_part.specs.Shape.{IsShaped};
 
-use gram_table::kind::{Kind, Place};
-use gram_table::part::Part;
-use gram_tree::tree::Tree;
+use reader_table::kind::{Kind, Place};
+use reader_table::part::Part;
+use reader_tree::tree::Tree;
 use rust_leaf::ident::Ident;
 use syn_ast::generics::OptionalWhere;
 use syn_part::leaf::Mark;

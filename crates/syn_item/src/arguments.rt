@@ -11,7 +11,7 @@ ghost use Rattle.syn_part.specs.Leaves.{list_tree};
 ghost use Rattle.syn_part.specs.Shape.{IsShaped};
 
 use crate::function::{FnArg, Parameter, Parameters, Receiver, Signature, Variadic};
-use gram_tree::tree::Tree;
+use reader_tree::tree::Tree;
 use syn_part::list::Elements;
 
 // The first of some elements.

@@ -7,9 +7,9 @@ ghost use Rattle.syn_item.specs.ItemAliases.{item_const};
 ghost use Rattle.syn_part.specs.Shape.{IsShaped};
 
 use crate::part;
-use gram_table::kind::Kind;
-use gram_table::part::Part;
-use gram_tree::tree::Tree;
+use reader_table::kind::Kind;
+use reader_table::part::Part;
+use reader_tree::tree::Tree;
 use rust_leaf::ident::Ident;
 use syn_part::leaf::Mark;
 use syn_part::name::Name;

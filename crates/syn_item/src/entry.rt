@@ -1,7 +1,7 @@
 //! Items with their attributes and their visibility.
 
-ghost use Rattle.gram_table.specs.Kinds.{kind_of, place_of};
-ghost use Rattle.gram_table.specs.declared.kind.Place.TheVariants as places;
+ghost use Rattle.reader_table.specs.Kinds.{kind_of, place_of};
+ghost use Rattle.reader_table.specs.declared.kind.Place.TheVariants as places;
 ghost use Rattle.std.specs.Prelude.{◌≡◌, IfSome, MatchOption, None};
 ghost use Rattle.syn_grammar.specs.Gram as g;
 ghost use Rattle.syn_grammar.specs.Gram.{Verdict as GivenVerdict};
@@ -18,9 +18,9 @@ ghost use Rattle.syn_part.specs.Kept.{IsFirst, IsKept};
 ghost use Rattle.syn_part.specs.Shape.{IsShaped};
 
 use crate::function::{Safety, as_foreign_safety};
-use gram_table::kind::{Kind, Place};
-use gram_table::part::Part;
-use gram_tree::tree::Tree;
+use reader_table::kind::{Kind, Place};
+use reader_table::part::Part;
+use reader_tree::tree::Tree;
 use rust_leaf::ident::Ident;
 use syn_part::take::{self, Choice};
 use syn_part::{inside, joined};

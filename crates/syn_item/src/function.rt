@@ -15,9 +15,9 @@ ghost use Rattle.syn_part.specs.Kept.{IsKept};
 ghost use Rattle.syn_part.specs.Leaves.{word_tree};
 ghost use Rattle.syn_part.specs.Shape.{IsShaped};
 
-use gram_table::kind::{Kind, Place};
-use gram_table::part::Part;
-use gram_tree::tree::Tree;
+use reader_table::kind::{Kind, Place};
+use reader_table::part::Part;
+use reader_tree::tree::Tree;
 use rust_leaf::ident::Ident;
 use syn_part::leaf::{Delimiters, Lifetime, Mark};
 use syn_part::list::Elements;

@@ -12,9 +12,9 @@ ghost use Rattle.syn_item.specs.ItemForms.{IsTypeAlias, MayBeKept, form_behind};
 ghost use Rattle.syn_part.specs.Shape.{IsAmong, IsShaped};
 
 use crate::judged::{Judged, verdict_on};
-use gram_table::kind::Kind;
-use gram_table::part::Part;
-use gram_tree::tree::Tree;
+use reader_table::kind::Kind;
+use reader_table::part::Part;
+use reader_tree::tree::Tree;
 use syn_part::inside;
 use syn_part::take::{self, Choice};
 

@@ -7,7 +7,7 @@ ghost use Rattle.syn_grammar.specs.Tree.{Tree as GivenTree};
 ghost use Rattle.syn_item.specs.ItemJudged.{judged_tree};
 ghost use Rattle.syn_part.specs.Shape.{IsShaped};
 
-use gram_tree::tree::{Form, Tree};
+use reader_tree::tree::{Form, Tree};
 
 /// What was judged.
 #[derive(Clone, Copy)]

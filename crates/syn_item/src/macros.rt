@@ -1,6 +1,6 @@
 //! Macros that stand as items.
 
-ghost use Rattle.gram_table.specs.Kinds.{place_of};
+ghost use Rattle.reader_table.specs.Kinds.{place_of};
 ghost use Rattle.proc_macro2.specs.Token.{Token};
 ghost use Rattle.proc_macro2.specs.declared.delimiter.Delimiter.{Delimiter as GivenDelimiter};
 ghost use Rattle.std.specs.Prelude.{◌≡◌, Bool, IfSome, List, MatchOption, None, ℕ};
@@ -13,8 +13,8 @@ ghost use Rattle.syn_part.specs.Leaves.{raw_tree};
 ghost use Rattle.syn_part.specs.Shape.{IsShaped};
 
 use crate::part;
-use gram_table::kind::{Kind, Place};
-use gram_tree::tree::Tree;
+use reader_table::kind::{Kind, Place};
+use reader_tree::tree::Tree;
 use syn_ast::paths::MacroDelimiter;
 use syn_buffer::entry::Entry;
 use syn_part::joined;

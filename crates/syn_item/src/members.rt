@@ -19,9 +19,9 @@ use crate::constant::ItemConst;
 use crate::function::{ItemFn, Safety, as_foreign_safety};
 use crate::judged::{Judged, verdict_on};
 use crate::macros::ItemMacro;
-use gram_table::kind::Kind;
-use gram_table::part::Part;
-use gram_tree::tree::Tree;
+use reader_table::kind::Kind;
+use reader_table::part::Part;
+use reader_tree::tree::Tree;
 use syn_part::take::{self, Choice5};
 use syn_part::{inside, joined};
 

@@ -8,8 +8,8 @@ ghost use Rattle.syn_grammar.specs.Name as n;
 ghost use Rattle.syn_item.specs.ItemParts.{braced_tree, name_or_tree};
 ghost use Rattle.syn_part.specs.Shape.{IsShaped};
 
-use gram_table::part::Part;
-use gram_tree::tree::Tree;
+use reader_table::part::Part;
+use reader_tree::tree::Tree;
 use syn_part::leaf::Delimiters;
 use syn_part::name::{Name, as_name};
 use syn_part::{inside, take};

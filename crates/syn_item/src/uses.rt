@@ -11,8 +11,8 @@ ghost use Rattle.syn_item.specs.ItemUses.{use_tree};
 ghost use Rattle.syn_part.specs.Name.{name_tree};
 ghost use Rattle.syn_part.specs.Shape.{IsShaped};
 
-use gram_table::kind::Kind;
-use gram_tree::tree::Tree;
+use reader_table::kind::Kind;
+use reader_tree::tree::Tree;
 use rust_leaf::ident::Ident;
 use syn_part::inside;
 use syn_part::leaf::{Delimiters, Mark};

@@ -1,11 +1,12 @@
--- Which values of the types of types, bounds, paths and patterns are trees, where their fields may contradict each other.
-use Rattle.gram_table.specs.declared.kind.Plus.{Plus}
-use Rattle.gram_table.specs.declared.kind.Plus.TheVariants as pluses
-use Rattle.gram_table.specs.declared.kind.Style.{Style}
-use Rattle.gram_table.specs.declared.kind.Style.TheVariants as styles
-use Rattle.gram_table.specs.Words.{sign_text}
-use Rattle.gram_table.specs.declared.word.Sign.{Sign}
-use Rattle.gram_table.specs.declared.word.Sign.TheVariants as signs
+-- Which values of the types of types, bounds, paths and patterns are trees, where their fields may contradict each
+-- other.
+use Rattle.reader_table.specs.declared.kind.Plus.{Plus}
+use Rattle.reader_table.specs.declared.kind.Plus.TheVariants as pluses
+use Rattle.reader_table.specs.declared.kind.Style.{Style}
+use Rattle.reader_table.specs.declared.kind.Style.TheVariants as styles
+use Rattle.reader_table.specs.Words.{sign_text}
+use Rattle.reader_table.specs.declared.word.Sign.{Sign}
+use Rattle.reader_table.specs.declared.word.Sign.TheVariants as signs
 use Rattle.std.specs.Prelude.{◌≡◌, Bool, true, false, None, Option, Some}
 use Rattle.syn_part.specs.Leaves.{list_tree}
 use Rattle.syn_ast.specs.Types.{no_lone}

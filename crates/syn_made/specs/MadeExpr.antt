@@ -1,6 +1,6 @@
--- Which values of the types of expressions and of what is made of them are trees, where their fields may contradict each
--- other.
-use Rattle.gram_table.specs.declared.word.Sign.TheVariants as signs
+-- Which values of the types of expressions and of what is made of them are trees, where their fields may contradict
+-- each other.
+use Rattle.reader_table.specs.declared.word.Sign.TheVariants as signs
 use Rattle.proc_macro2.specs.declared.delimiter.Delimiter.TheVariants.{Parenthesis}
 use Rattle.std.specs.Prelude.{◌≡◌, Bool, true, false, None, Option, Some, cond}
 use Rattle.syn_part.specs.Leaves.{mark_tree, optional_tree, word_tree}

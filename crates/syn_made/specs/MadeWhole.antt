@@ -1,6 +1,6 @@
 -- Which values of the types are trees, where their fields may contradict each other.
-use Rattle.gram_table.specs.declared.kind.Place.{Place}
-use Rattle.gram_table.specs.declared.kind.Place.TheVariants as places
+use Rattle.reader_table.specs.declared.kind.Place.{Place}
+use Rattle.reader_table.specs.declared.kind.Place.TheVariants as places
 use Rattle.rust_leaf.specs.declared.ident.Ident.{Ident}
 use Rattle.std.specs.Prelude.{◌≡◌, None, Option, Some}
 use Rattle.syn_part.specs.declared.leaf.Mark.{Mark}

@@ -1,20 +1,20 @@
-//! What trees are made of: each is a tree once what stands in it is one. Several values one behind the other, as a tuple,
-//! are a tree too, and so is what may be missing, and `()`, which is no token.
+//! What trees are made of: each is a tree once what stands in it is one. Several values one behind the other, as a
+//! tuple, are a tree too, and so is what may be missing, and `()`, which is no token.
 
-ghost use Rattle.gram_table.specs.Kinds.{kind_of};
-ghost use Rattle.gram_table.specs.Parts.{part_of};
-ghost use Rattle.gram_tree.specs.Forms.{seconds};
+ghost use Rattle.reader_table.specs.Kinds.{kind_of};
+ghost use Rattle.reader_table.specs.Parts.{part_of};
+ghost use Rattle.reader_tree.specs.Forms.{seconds};
 ghost use Rattle.syn_grammar.specs.Tree as t;
 ghost use Rattle.syn_part.specs.Leaves.{optional_tree};
 
 use crate::parts::{four, missing, three};
 use crate::put::{behind, node, nth};
 use crate::to_tree::ToTree;
-use gram_table::kind::Kind;
-use gram_table::part::Part;
-use gram_tree::arena::Arena;
-use gram_tree::made;
-use gram_tree::tree::Tree;
+use reader_table::kind::Kind;
+use reader_table::part::Part;
+use reader_tree::arena::Arena;
+use reader_tree::made;
+use reader_tree::tree::Tree;
 use std::alloc::AllocError;
 use syn_part::leaf::Delimiters;
 

@@ -5,10 +5,10 @@ ghost use Rattle.syn_made.specs.MadeAst.{IsSign};
 ghost use Rattle.syn_part.specs.Leaves.{lifetime_tree, literal_tree, mark_tree, node_tree, raw_tree, word_tree};
 
 use crate::to_tree::ToTree;
-use gram_table::word::Sign;
-use gram_tree::arena::Arena;
-use gram_tree::made;
-use gram_tree::tree::Tree;
+use reader_table::word::Sign;
+use reader_tree::arena::Arena;
+use reader_tree::made;
+use reader_tree::tree::Tree;
 use rust_leaf::ident::Ident;
 use rust_leaf::literal::Literal;
 use std::alloc::AllocError;

@@ -5,10 +5,10 @@ ghost use Rattle.syn_grammar.specs.Tree as t;
 ghost use Rattle.syn_part.specs.Leaves.{list_tree, turns_tree};
 
 use crate::to_tree::ToTree;
-use gram_table::op::Separator;
-use gram_tree::arena::Arena;
-use gram_tree::made;
-use gram_tree::tree::{Element, Tree};
+use reader_table::op::Separator;
+use reader_tree::arena::Arena;
+use reader_tree::made;
+use reader_tree::tree::{Element, Tree};
 use std::alloc::AllocError;
 use syn_part::list::{Elements, Turns};
 

@@ -4,8 +4,8 @@ ghost use Rattle.syn_part.specs.Name.{name_tree, renamed_tree};
 
 use crate::put::{behind, nth};
 use crate::to_tree::ToTree;
-use gram_tree::arena::Arena;
-use gram_tree::tree::Tree;
+use reader_tree::arena::Arena;
+use reader_tree::tree::Tree;
 use std::alloc::AllocError;
 use syn_part::name::{Name, Renamed};
 

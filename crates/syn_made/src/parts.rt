@@ -3,9 +3,9 @@
 ghost use Rattle.std.specs.Prelude.{◌≡◌, IfOk};
 ghost use Rattle.syn_grammar.specs.Tree as t;
 
-use gram_tree::arena::Arena;
-use gram_tree::made;
-use gram_tree::tree::Tree;
+use reader_tree::arena::Arena;
+use reader_tree::made;
+use reader_tree::tree::Tree;
 use std::alloc::AllocError;
 
 /// Nothing, where something might stand.

@@ -1,17 +1,18 @@
-//! Values put into what trees are made of: by these the forms of `forms` and of `expr::forms` are trees, and most types
-//! are by the same at once. A value is lent and not moved, and no form is made of it, so what calls these is cheap to check.
+//! Values put into what trees are made of: by these the forms of `forms` and of `expr::forms` are trees, and most
+//! types are by the same at once. A value is lent and not moved, and no form is made of it, so what calls these is
+//! cheap to check.
 
-ghost use Rattle.gram_table.specs.Kinds.{kind_of};
-ghost use Rattle.gram_tree.specs.Forms.{seconds};
+ghost use Rattle.reader_table.specs.Kinds.{kind_of};
+ghost use Rattle.reader_tree.specs.Forms.{seconds};
 ghost use Rattle.std.specs.Prelude.{◌≡◌, IfOk, MatchOption};
 ghost use Rattle.syn_grammar.specs.Tree as t;
 ghost use Rattle.syn_grammar.specs.Tree.{Tree as GivenTree};
 
 use crate::to_tree::ToTree;
-use gram_table::kind::Kind;
-use gram_tree::arena::Arena;
-use gram_tree::made;
-use gram_tree::tree::Tree;
+use reader_table::kind::Kind;
+use reader_tree::arena::Arena;
+use reader_tree::made;
+use reader_tree::tree::Tree;
 use std::alloc::AllocError;
 
 /// A node of a kind.

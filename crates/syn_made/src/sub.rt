@@ -6,9 +6,9 @@ ghost use Rattle.syn_part.specs.Sub.{worded_tree};
 use crate::forms::Called;
 use crate::put::{behind, nth};
 use crate::to_tree::ToTree;
-use gram_table::part::Part;
-use gram_tree::arena::Arena;
-use gram_tree::tree::Tree;
+use reader_table::part::Part;
+use reader_tree::arena::Arena;
+use reader_tree::tree::Tree;
 use std::alloc::AllocError;
 use syn_part::sub::{Lit, Marked, MarkedBounds, MarkedType, MarkedValue, Worded};
 

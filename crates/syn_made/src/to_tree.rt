@@ -3,8 +3,8 @@
 ghost use Rattle.std.specs.Prelude.{◌≡◌, IfOk, MatchOption};
 ghost use Rattle.syn_grammar.specs.Tree.{Tree as GivenTree};
 
-use gram_tree::arena::Arena;
-use gram_tree::tree::Tree;
+use reader_tree::arena::Arena;
+use reader_tree::tree::Tree;
 use std::alloc::AllocError;
 
 /// What a tree can be made of: a type of the syntax tree, which is one layer of a tree.
@@ -20,8 +20,8 @@ pub trait ToTree<'a> {
     fn to_tree(&self, arena: &'a Arena) -> Result<Tree<'a>, AllocError>
         ensures { IfOk result (λ x. x ≡ tree self.now) };
 
-    /// The value as a tree, as `try_to_tree` answers it where nothing is asked of the value: it always is one. (`Unit` stands
-    /// in its contract where that of such a type says which of its values are trees.)
+    /// The value as a tree, as `try_to_tree` answers it where nothing is asked of the value: it always is one. (`Unit`
+    /// stands in its contract where that of such a type says which of its values are trees.)
     ///
     /// # Errors
     ///

@@ -3,8 +3,8 @@
 ghost use Rattle.std.specs.Prelude.{IfOk, MatchOption};
 ghost use Rattle.syn_grammar.specs.Tree.{Tree as GivenTree};
 
-use gram_tree::arena::Arena;
-use gram_tree::tree::Tree;
+use reader_tree::arena::Arena;
+use reader_tree::tree::Tree;
 use std::alloc::AllocError;
 
 /// What a tree can be made of, if there is one: a type of the syntax tree of which some values are no tree of the

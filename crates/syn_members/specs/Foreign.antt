@@ -10,8 +10,8 @@ use Rattle.syn_item.specs.ItemMembers.{foreign_static}
 use Rattle.syn_members.specs.declared.foreign.ForeignItem.{ForeignItem}
 use Rattle.syn_members.specs.declared.foreign.ForeignItem.TheVariants as foreigns
 
--- the tree holds the item of an extern block: as the alternative that the grammar chooses the form of a function, a type
--- or a macro, as a part, or a static with its safety, or all that was read, where its tokens are kept
+-- the tree holds the item of an extern block: as the alternative that the grammar chooses the form of a function, a
+-- type or a macro, as a part, or a static with its safety, or all that was read, where its tokens are kept
 abbrev pub IsForeign : Tree → ForeignItem → Type 0
 IsForeign (t.First (t.Called m y)) (foreigns.Fn x) = (m ≡ n.the_item) × IsItemFn x y
 IsForeign (t.Second (t.First y)) (foreigns.Static x) = (y ≡ foreign_static x) × IsSafety x.safety

@@ -11,9 +11,9 @@ ghost use Rattle.syn_item.specs.ItemMembers.{form_of_foreign_item};
 ghost use Rattle.syn_members.specs.Foreign.{IsForeign};
 ghost use Rattle.syn_part.specs.Shape.{IsShaped};
 
-use gram_table::kind::Kind;
-use gram_table::part::Part;
-use gram_tree::tree::Tree;
+use reader_table::kind::Kind;
+use reader_table::part::Part;
+use reader_tree::tree::Tree;
 use syn_item::alias::ItemType;
 use syn_item::function::ItemFn;
 use syn_item::judged::{Judged, verdict_on};

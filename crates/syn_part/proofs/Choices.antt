@@ -6,8 +6,8 @@ use Rattle.std.proofs.Common.{arith}
 use Rattle.syn_grammar.specs.Gram.{Gram}
 use Rattle.syn_grammar.specs.Tree as t
 use Rattle.syn_grammar.specs.Tree.{Tree}
-use Rattle.gram_tree.specs.declared.tree.Element.{Element}
-use Rattle.gram_tree.specs.Forms.{mark_of, seconds, turns, elements, ending}
+use Rattle.reader_tree.specs.declared.tree.Element.{Element}
+use Rattle.reader_tree.specs.Forms.{mark_of, seconds, turns, elements, ending}
 use Rattle.syn_part.specs.Kept.{IsFirst}
 use Rattle.syn_part.specs.Shape.{IsShaped, may_choose}
 use Rattle.syn_part.proofs.Takes.{not_both, shaped_first, shaped_second}

@@ -2,8 +2,8 @@
 use Rattle.std.specs.Prelude.{◌≡◌, ℕ, List, [], ◌∷◌, ◌++◌, Option, Some, None, map, refl}
 use Rattle.std.proofs.Common.{ap}
 use Rattle.syn_grammar.specs.Tree.{Tree}
-use Rattle.gram_tree.specs.declared.tree.Element.{Element}
-use Rattle.gram_tree.specs.Forms.{elements, ending}
+use Rattle.reader_tree.specs.declared.tree.Element.{Element}
+use Rattle.reader_tree.specs.Forms.{elements, ending}
 use Rattle.syn_part.specs.Iter.{last_part, parts}
 use Rattle.syn_part.specs.Leaves.{node_tree}
 use denote.Bor.{Bor}

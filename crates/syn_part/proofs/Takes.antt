@@ -9,8 +9,8 @@ use Rattle.syn_grammar.specs.Gram.{Gram, mark, nothing, alt, star, many}
 use Rattle.syn_grammar.specs.Gram.{judged}
 use Rattle.syn_grammar.specs.Tree as t
 use Rattle.syn_grammar.specs.Tree.{Tree}
-use Rattle.gram_tree.specs.declared.tree.Element.{Element}
-use Rattle.gram_tree.specs.Forms.{mark_of, seconds, turns, elements, ending}
+use Rattle.reader_tree.specs.declared.tree.Element.{Element}
+use Rattle.reader_tree.specs.Forms.{mark_of, seconds, turns, elements, ending}
 use Rattle.syn_part.specs.Shape.{IsShaped, may_choose}
 
 abbrev pub may_mark : Gram → Bool

@@ -7,9 +7,9 @@ use Rattle.rust_leaf.specs.declared.literal.Literal.{Literal}
 use Rattle.syn_grammar.specs.Name.{Part}
 use Rattle.syn_grammar.specs.Tree as t
 use Rattle.syn_grammar.specs.Tree.{Tree}
-use Rattle.gram_table.specs.Ops.{separator_of}
-use Rattle.gram_table.specs.Words.{sign_text}
-use Rattle.gram_tree.specs.Forms.{elements, ending, mark_of, seconds, turns}
+use Rattle.reader_table.specs.Ops.{separator_of}
+use Rattle.reader_table.specs.Words.{sign_text}
+use Rattle.reader_tree.specs.Forms.{elements, ending, mark_of, seconds, turns}
 use Rattle.syn_buffer.specs.Entries.{entry_token}
 use Rattle.syn_buffer.specs.declared.entry.Entry.{Entry}
 use Rattle.syn_part.specs.declared.leaf.Mark.{Mark}

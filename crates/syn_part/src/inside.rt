@@ -1,8 +1,8 @@
 //! What a node of one kind is made of, where it has the shape of the kind's entry. Each answers nothing only of trees
 //! that are no such node.
 
-ghost use Rattle.gram_table.specs.Kinds.{kind_of};
-ghost use Rattle.gram_table.specs.Parts.{part_of};
+ghost use Rattle.reader_table.specs.Kinds.{kind_of};
+ghost use Rattle.reader_table.specs.Parts.{part_of};
 ghost use Rattle.proc_macro2.specs.Token.{Token};
 ghost use Rattle.proc_macro2.specs.declared.delimiter.Delimiter.{Delimiter as GivenDelimiter};
 ghost use Rattle.std.specs.Prelude.{◌≡◌, Bool, List, MatchOption, ℕ};
@@ -15,10 +15,10 @@ ghost use Rattle.syn_part.specs.Shape.{IsShaped};
 
 use crate::leaf::{Delimiters, Mark};
 use crate::take;
-use gram_table::kind::Kind;
-use gram_table::part::Part;
-use gram_table::same::{same_kind, same_part};
-use gram_tree::tree::Tree;
+use reader_table::kind::Kind;
+use reader_table::part::Part;
+use reader_table::same::{same_kind, same_part};
+use reader_tree::tree::Tree;
 use rust_leaf::ident::Ident;
 
 /// Of a node of that kind its inside.

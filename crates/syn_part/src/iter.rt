@@ -6,7 +6,7 @@ ghost use Rattle.syn_part.specs.Iter.{iter_left, parts};
 ghost use Rattle.syn_part.specs.Leaves.{list_tree};
 
 use crate::list::Elements;
-use gram_tree::tree::{Element, Tree};
+use reader_tree::tree::{Element, Tree};
 use std::slice;
 
 /// The elements of a list, in order, lent.

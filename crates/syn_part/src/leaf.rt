@@ -1,7 +1,7 @@
 //! Leaves: what a field of a type holds that is a token, and the delimiters of a group.
 
-use gram_table::word::Sign;
 use proc_macro2::delimiter::Delimiter;
+use reader_table::word::Sign;
 use rust_leaf::ident::Ident;
 use rust_leaf::punct::Spacing;
 use rust_map::span::Span;

@@ -5,8 +5,8 @@ ghost use Rattle.syn_grammar.specs.Tree as t;
 ghost use Rattle.syn_grammar.specs.Tree.{Tree as GivenTree};
 ghost use Rattle.syn_part.specs.Leaves.{list_tree};
 
-use gram_table::op::Separator;
-use gram_tree::tree::{Element, Tree};
+use reader_table::op::Separator;
+use reader_tree::tree::{Element, Tree};
 
 /// Elements with a mark between them, and perhaps one behind the last.
 #[derive(Clone, Copy)]

@@ -4,7 +4,7 @@ ghost use Rattle.std.specs.Prelude.{◌≡◌, cond};
 ghost use Rattle.syn_grammar.specs.Tree as t;
 
 use crate::take;
-use gram_tree::tree::Tree;
+use reader_tree::tree::Tree;
 
 /// Whether nothing is chosen there, where something might be.
 #[tactic(auto, using(crate::proofs::Absent::missing_none))]

@@ -9,7 +9,7 @@ ghost use Rattle.syn_part.specs.Shape.{IsShaped};
 
 use crate::joined;
 use crate::take::{self, Choice};
-use gram_tree::tree::Tree;
+use reader_tree::tree::Tree;
 use rust_leaf::ident::Ident;
 
 /// A name, or the keyword that may stand in its place.

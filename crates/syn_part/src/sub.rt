@@ -12,8 +12,8 @@ ghost use Rattle.syn_part.specs.Sub.{worded_tree};
 use crate::leaf::Mark;
 use crate::take::{self, Choice};
 use crate::{inside, joined};
-use gram_table::part::Part;
-use gram_tree::tree::Tree;
+use reader_table::part::Part;
+use reader_tree::tree::Tree;
 use rust_leaf::ident::Ident;
 use rust_leaf::literal::Literal;
 

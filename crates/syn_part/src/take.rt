@@ -1,8 +1,8 @@
 //! What a tree is made of, where it has the shape of an entry. Each answers nothing only where it has no such shape.
 
-ghost use Rattle.gram_table.specs.Kinds.{kind_of};
-ghost use Rattle.gram_table.specs.Parts.{part_of};
-ghost use Rattle.gram_tree.specs.Forms.{seconds};
+ghost use Rattle.reader_table.specs.Kinds.{kind_of};
+ghost use Rattle.reader_table.specs.Parts.{part_of};
+ghost use Rattle.reader_tree.specs.Forms.{seconds};
 ghost use Rattle.proc_macro2.specs.Token.{Token};
 ghost use Rattle.proc_macro2.specs.declared.delimiter.Delimiter.{Delimiter as GivenDelimiter};
 ghost use Rattle.std.specs.Prelude.{◌≡◌, Bool, List, MatchOption, [], cond, false, ℕ};
@@ -18,10 +18,10 @@ ghost use Rattle.syn_part.specs.Shape.{IsShaped, may_choose};
 
 use crate::leaf::{Delimiters, Lifetime, Mark};
 use crate::list::{Elements, Turns};
-use gram_table::kind::Kind;
-use gram_table::op::Separator;
-use gram_table::part::Part;
-use gram_tree::tree::{Element, Form, Tree};
+use reader_table::kind::Kind;
+use reader_table::op::Separator;
+use reader_table::part::Part;
+use reader_tree::tree::{Element, Form, Tree};
 use rust_leaf::ident::Ident;
 use rust_leaf::literal::Literal;
 use syn_buffer::entry::Entry;

@@ -9,7 +9,7 @@ use Rattle.syn_grammar.specs.Patterns.{one_pattern}
 use Rattle.syn_grammar.specs.Table.{table}
 use Rattle.syn_grammar.specs.Tree as t
 use Rattle.syn_grammar.specs.Tree.{Tree}
-use Rattle.gram_tree.specs.Forms.{turns}
+use Rattle.reader_tree.specs.Forms.{turns}
 use Rattle.syn_pat.specs.Pat.{IsAPattern, alternatives, is_rest_form, is_rest_pattern, lone_rest}
 use Rattle.syn_part.specs.Shape.{IsShaped, IsAmong}
 use Rattle.syn_part.proofs.Chosen.{choice_is}

@@ -15,8 +15,8 @@ use crate::patterns::{
     PatSeveral, PatSlice, PatWild, PathBehind, PathPattern, RangeBound, RangeEnd, RangeLimits,
     SignedLit,
 };
-use gram_table::kind::Kind;
-use gram_tree::tree::Tree;
+use reader_table::kind::Kind;
+use reader_tree::tree::Tree;
 use syn_part::leaf::Delimiters;
 use syn_part::list::Elements;
 use syn_part::{inside, take};

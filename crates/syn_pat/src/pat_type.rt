@@ -1,6 +1,6 @@
 //! A pattern and its type, of which a pattern's own tree says nothing: both stand in the tree around them.
 
-use gram_tree::tree::Tree;
+use reader_tree::tree::Tree;
 use syn_part::leaf::Mark;
 
 /// A pattern and its type: `a: A`. A parameter of a function or of a closure is one, and in a `let` one stands; each

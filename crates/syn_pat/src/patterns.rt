@@ -16,9 +16,9 @@ ghost use Rattle.syn_pat.specs.Patterns.{pat_rest, pat_several, pat_slice, pat_w
 ghost use Rattle.syn_pat.specs.Patterns.{range_end};
 ghost use Rattle.syn_pat.specs.Patterns.{range_limits, shorthand_tree, signed_lit_tree, subpattern};
 
-use gram_table::kind::Kind;
-use gram_table::part::Part;
-use gram_tree::tree::Tree;
+use reader_table::kind::Kind;
+use reader_table::part::Part;
+use reader_tree::tree::Tree;
 use rust_leaf::ident::Ident;
 use rust_leaf::literal::Literal;
 use syn_part::leaf::{Delimiters, Mark};

@@ -5,7 +5,7 @@ use Rattle.std.proofs.Common.{ap, length, take, drop, get_or}
 use Rattle.proc_macro2.specs.Token.{Token}
 use Rattle.syn_buffer.specs.declared.entry.Entry.{Entry}
 use Rattle.syn_grammar.specs.Tree.{Tree, flat}
-use Rattle.gram_tree.specs.declared.tree.Element.{Element}
+use Rattle.reader_tree.specs.declared.tree.Element.{Element}
 use Rattle.syn_placed.specs.Parted.{listed}
 use Rattle.syn_placed.specs.Stands.{tokens}
 

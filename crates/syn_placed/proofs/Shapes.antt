@@ -6,7 +6,7 @@ use Rattle.syn_grammar.specs.Kind.{Kind}
 use Rattle.syn_grammar.specs.Part.{choice}
 use Rattle.syn_grammar.specs.Tree as t
 use Rattle.syn_grammar.specs.Tree.{Tree, flat}
-use Rattle.gram_tree.specs.Shapes.{node_of, pair_of, group_of, whole_of, alone_of, first_of, last_of}
+use Rattle.reader_tree.specs.Shapes.{node_of, pair_of, group_of, whole_of, alone_of, first_of, last_of}
 
 same_some : (x y : Tree) → Some x ≡ Some y → flat y ≡ flat x
 same_some x y e = let h : x ≡ y = cc in ap flat (sym h)

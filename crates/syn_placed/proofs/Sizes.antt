@@ -3,10 +3,10 @@ use Rattle.std.specs.Prelude.{ℕ, zero, suc, ◌≤◌, ◌<◌}
 use Rattle.std.proofs.Common.{◌≡◌, arith, ap}
 use Rattle.syn_grammar.specs.Tree as t
 use Rattle.syn_grammar.specs.Tree.{Tree}
-use Rattle.gram_tree.specs.declared.tree.Tree.TheDeep.{size-Tree}
-use Rattle.gram_tree.specs.Forms.{seconds}
-use Rattle.gram_tree.specs.Size.{node_count}
-use Rattle.gram_tree.proofs.Sizes.{tree_size}
+use Rattle.reader_tree.specs.declared.tree.Tree.TheDeep.{size-Tree}
+use Rattle.reader_tree.specs.Forms.{seconds}
+use Rattle.reader_tree.specs.Size.{node_count}
+use Rattle.reader_tree.proofs.Sizes.{tree_size}
 
 seconds_le : (n : ℕ) (x : Tree) → node_count x ≤ node_count (seconds n x)
 seconds_le zero x = omega arith

@@ -11,7 +11,7 @@ use Rattle.syn_grammar.specs.Name.{Part}
 use Rattle.syn_grammar.specs.Part.{found, is_some}
 use Rattle.syn_grammar.specs.Tree as t
 use Rattle.syn_grammar.specs.Tree.{Tree, flat}
-use Rattle.gram_tree.specs.Forms.{seconds}
+use Rattle.reader_tree.specs.Forms.{seconds}
 use Rattle.syn_placed.specs.Before.{before}
 use Rattle.syn_placed.specs.Stands.{tokens, Begins, IsPast, StandsBehind}
 use Rattle.syn_placed.proofs.Cuts.{behind_same}

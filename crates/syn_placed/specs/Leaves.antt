@@ -1,7 +1,7 @@
 -- Which trees are one token.
 use Rattle.std.specs.Prelude.{Bool, true, false}
 use Rattle.syn_grammar.specs.Tree.{Tree, AWord, ALiteral}
-use Rattle.gram_tree.specs.Shapes.{single}
+use Rattle.reader_tree.specs.Shapes.{single}
 
 -- an identifier or a keyword
 abbrev pub single_word : Tree → Bool

@@ -2,7 +2,7 @@
 use Rattle.std.specs.Prelude.{List, [], ◌∷◌, Option, Some, None, length, take, drop, slice_get, suc}
 use Rattle.syn_buffer.specs.declared.entry.Entry.{Entry}
 use Rattle.syn_grammar.specs.Tree.{Tree, flat}
-use Rattle.gram_tree.specs.declared.tree.Element.{Element}
+use Rattle.reader_tree.specs.declared.tree.Element.{Element}
 
 -- each turn
 abbrev pub parted : List Tree → List Entry → List (Tree × List Entry)

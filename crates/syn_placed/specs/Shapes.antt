@@ -1,9 +1,9 @@
--- What stands in a tree, for the shapes that `gram_tree` has no word for.
+-- What stands in a tree, for the shapes that `reader_tree` has no word for.
 use Rattle.std.specs.Prelude.{Option, Some, None}
 use Rattle.syn_grammar.specs.Kind.{Kind}
 use Rattle.syn_grammar.specs.Name.{Part}
 use Rattle.syn_grammar.specs.Tree.{Tree, Called, Dropped, Verbatim, Front, Back, Infix}
-use Rattle.gram_tree.specs.Shapes.{single}
+use Rattle.reader_tree.specs.Shapes.{single}
 
 -- of a form with an operand behind it alone its kind, its own part, and that operand
 abbrev pub single_ahead : Tree → Option (Kind × Tree × Tree)

@@ -1,9 +1,9 @@
 -- Where the entries of a part stand among those of a whole.
 --
 -- A tree's tokens are those that it was read from, in their order, so what stands in a tree has tokens that stand
--- together among the tree's: in front of them stand the tokens of what stands in front of it in the tree, and behind them
--- those of what stands behind it. An entry is a token where it stands in the text. So a part stands in the text where
--- those entries stand that are left of the whole's when as many are taken away from the front and from the back.
+-- together among the tree's: in front of them stand the tokens of what stands in front of it in the tree, and behind
+-- them those of what stands behind it. An entry is a token where it stands in the text. So a part stands in the text
+-- where those entries stand that are left of the whole's when as many are taken away from the front and from the back.
 use Rattle.std.specs.Prelude.{◌≡◌, List, ◌++◌, map}
 use Rattle.proc_macro2.specs.Token.{Token, Spanned, plain}
 use Rattle.syn_buffer.specs.Entries.{entry_token}

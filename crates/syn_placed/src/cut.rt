@@ -6,8 +6,8 @@ ghost use Rattle.syn_grammar.specs.Tree.{flat};
 ghost use Rattle.syn_placed.specs.Stands.{Begins, IsPast, tokens};
 
 use crate::placed::Placed;
-use gram_tree::count::past;
-use gram_tree::tree::Tree;
+use reader_tree::count::past;
+use reader_tree::tree::Tree;
 use syn_buffer::entry::Entry;
 
 /// The tree with its tokens, with which the entries begin, and those behind it.

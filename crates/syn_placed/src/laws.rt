@@ -6,14 +6,15 @@ ghost use Rattle.syn_buffer.specs.Entries.{spanned_entries};
 ghost use Rattle.syn_buffer.specs.declared.entry.Entry.{Entry};
 ghost use Rattle.syn_placed.specs.Stands.{StandApart, StandsAmong, StandsBehind, tokens};
 
-/// The tokens of a part with their spans stand, in their order, among those of the whole, behind those that stand in front
-/// of the part and before all others.
+/// The tokens of a part with their spans stand, in their order, among those of the whole, behind those that stand in
+/// front of the part and before all others.
 pub fn parts_stand_among()
     ensures { (before : List Token) (its whole : List Entry) → StandsBehind before its whole
         → StandsAmong before (spanned_entries its) (spanned_entries whole) }
 {}
 
-/// What stands in a part stands in the whole, behind what stands in front of the part and what stands in front of it there.
+/// What stands in a part stands in the whole, behind what stands in front of the part and what stands in front of it
+/// there.
 pub fn parts_of_parts()
     ensures { (before more : List Token) (its part whole : List Entry) → StandsBehind before part whole
         → StandsBehind more its part → StandsBehind (before ++ more) its whole }

@@ -5,12 +5,12 @@ ghost use Rattle.syn_buffer.specs.declared.entry.Entry.TheVariants as marks;
 ghost use Rattle.syn_placed.specs.Leaves.{is_literal, is_word};
 
 use crate::placed::Placed;
-use gram_tree::tree::Form;
+use reader_tree::tree::Form;
 use rust_leaf::ident::Ident;
 use rust_leaf::literal::Literal;
 use syn_buffer::entry::Entry;
 
-#[tactic(auto, using(gram_tree::proofs::Shapes::singles))]
+#[tactic(auto, using(reader_tree::proofs::Shapes::singles))]
 impl<'t, 'a> Placed<'t, 'a> {
     /// Of an identifier or a keyword the token itself, with its span.
     pub fn word(&self) -> Option<&'a Ident>

@@ -1,8 +1,8 @@
 //! The elements of a list, and the marks behind them, each where it stands.
 
-ghost use Rattle.gram_table.specs.Ops.{separator_of};
-ghost use Rattle.gram_tree.specs.Forms.{elements, ending};
-ghost use Rattle.gram_tree.specs.Shapes.{IsListOf, is_list};
+ghost use Rattle.reader_table.specs.Ops.{separator_of};
+ghost use Rattle.reader_tree.specs.Forms.{elements, ending};
+ghost use Rattle.reader_tree.specs.Shapes.{IsListOf, is_list};
 ghost use Rattle.std.specs.Iterator.{YieldsFirstBy, item_count};
 ghost use Rattle.std.specs.Prelude.{◌≡◌, IfSome, MatchOption, false, map, option_map};
 ghost use Rattle.syn_buffer.specs.Entries.{entry_token};
@@ -11,8 +11,8 @@ ghost use Rattle.syn_placed.specs.Parted.{listed};
 
 use crate::cut::cut;
 use crate::placed::Placed;
-use gram_table::op::Separator;
-use gram_tree::tree::{Element, Form, Tree};
+use reader_table::op::Separator;
+use reader_tree::tree::{Element, Form, Tree};
 use syn_buffer::entry::Entry;
 
 /// An element of a list, and the mark behind it, if one follows.
@@ -77,7 +77,7 @@ impl<'t, 'a> Iterator for Elements<'t, 'a> {
 
 impl<'t, 'a> Placed<'t, 'a> {
     /// Of a list the elements, each with the mark behind it.
-    #[tactic(auto, using(gram_tree::proofs::Shapes::lists))]
+    #[tactic(auto, using(reader_tree::proofs::Shapes::lists))]
     pub fn list(&self) -> Option<Elements<'t, 'a>>
         ensures tree { MatchOption result (is_list self.now.tree.now ≡ false)
             (λ s. IsListOf s.before.now (option_map (λ b. b.now) s.last) self.now.tree.now) }

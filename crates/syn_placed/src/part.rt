@@ -1,6 +1,6 @@
 //! The parts of what was read, each where it stands.
 
-ghost use Rattle.gram_table.specs.Parts.{part_of};
+ghost use Rattle.reader_table.specs.Parts.{part_of};
 ghost use Rattle.std.specs.Prelude.{◌≡◌, ◌≤◌, IfSome, MatchResult, None, Some, drop, length, option_map};
 ghost use Rattle.syn_buffer.specs.Entries.{spanned_entries};
 ghost use Rattle.syn_buffer.specs.declared.entry.Entry.{Entry as GivenEntry};
@@ -11,8 +11,8 @@ ghost use Rattle.syn_placed.specs.Stands.{Begins, IsPast, StandsAmong, StandsBeh
 
 use crate::cut::{cut, skip};
 use crate::placed::Placed;
-use gram_table::part::Part;
-use gram_tree::tree::{Form, Tree};
+use reader_table::part::Part;
+use reader_tree::tree::{Form, Tree};
 use syn_buffer::entry::Entry;
 
 // The number of a name.
@@ -40,7 +40,7 @@ fn behind_first<'t, 'a>(entries: &'t [Entry<'a>]) -> &'t [Entry<'a>]
 }
 
 // The part of that name, or, where the tree has none, what stands behind the tree. Each token is passed once.
-#[tactic(auto, using(gram_tree::proofs::Parts::parts))]
+#[tactic(auto, using(reader_tree::proofs::Parts::parts))]
 fn find<'t, 'a>(
     tree: &'t Tree<'a>,
     entries: &'t [Entry<'a>],

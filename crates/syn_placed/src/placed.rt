@@ -4,7 +4,7 @@ ghost use Rattle.std.specs.Prelude.{◌-◌, ◌≡◌, ◌↔◌, [], None, len
 ghost use Rattle.syn_buffer.specs.Entries.{entry_span, entry_token};
 ghost use Rattle.syn_grammar.specs.Tree.{flat};
 
-use gram_tree::tree::Tree;
+use reader_tree::tree::Tree;
 use rust_map::span::Span;
 use syn_buffer::buffer::TokenBuffer;
 use syn_buffer::entry::Entry;

@@ -1,11 +1,11 @@
 //! What a tree is, and what stands in it, each where it stands.
 //!
-//! Each call answers what the call of that name answers of the tree alone (`gram_tree::shape`), with the entries of
+//! Each call answers what the call of that name answers of the tree alone (`reader_tree::shape`), with the entries of
 //! exactly its tokens.
 
-ghost use Rattle.gram_table.specs.Kinds.{kind_of};
-ghost use Rattle.gram_table.specs.Parts.{part_of};
-ghost use Rattle.gram_tree.specs.Shapes.{alone_of, first_of, group_of, last_of, node_of, pair_of, whole_of};
+ghost use Rattle.reader_table.specs.Kinds.{kind_of};
+ghost use Rattle.reader_table.specs.Parts.{part_of};
+ghost use Rattle.reader_tree.specs.Shapes.{alone_of, first_of, group_of, last_of, node_of, pair_of, whole_of};
 ghost use Rattle.std.specs.Prelude.{◌++◌, ◌∷◌, ◌≡◌, [], IfSome, option_map};
 ghost use Rattle.syn_buffer.specs.declared.entry.Entry.{Entry as GivenEntry};
 ghost use Rattle.syn_grammar.specs.Part.{choice};
@@ -13,9 +13,9 @@ ghost use Rattle.syn_placed.specs.Shapes.{ahead_of, back_of, called_of, dropped_
 
 use crate::cut::{cut, cut_two};
 use crate::placed::Placed;
-use gram_table::kind::Kind;
-use gram_table::part::Part;
-use gram_tree::tree::Form;
+use reader_table::kind::Kind;
+use reader_table::part::Part;
+use reader_tree::tree::Form;
 
 // What has the same tokens.
 #[tactic(auto, using(crate::proofs::Shapes::same_tokens))]
@@ -85,7 +85,7 @@ impl<'t, 'a> Placed<'t, 'a> {
 }
 
 // The same of what the tree alone has no call for.
-#[tactic(auto, using(gram_tree::proofs::Shapes::singles))]
+#[tactic(auto, using(reader_tree::proofs::Shapes::singles))]
 impl<'t, 'a> Placed<'t, 'a> {
     /// Of a part its name and what it is.
     pub fn called(&self) -> Option<(Part, Placed<'t, 'a>)>

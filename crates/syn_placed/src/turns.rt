@@ -1,7 +1,7 @@
 //! Turns, one behind the other, each where it stands.
 
-ghost use Rattle.gram_tree.specs.Forms.{turns};
-ghost use Rattle.gram_tree.specs.Shapes.{is_turns};
+ghost use Rattle.reader_tree.specs.Forms.{turns};
+ghost use Rattle.reader_tree.specs.Shapes.{is_turns};
 ghost use Rattle.std.specs.Iterator.{YieldsFirstBy, item_count};
 ghost use Rattle.std.specs.Prelude.{◌≡◌, IfSome, MatchOption, false, map};
 ghost use Rattle.syn_buffer.specs.Entries.{entry_token};
@@ -10,7 +10,7 @@ ghost use Rattle.syn_placed.specs.Parted.{parted};
 
 use crate::cut::cut;
 use crate::placed::Placed;
-use gram_tree::tree::Tree;
+use reader_tree::tree::Tree;
 use syn_buffer::entry::Entry;
 
 /// Turns that are left, and the entries that they were read from. Each token is passed once.

@@ -2,8 +2,8 @@
 use Rattle.std.proofs.Common.{◌≡◌, ◌∙◌, ℕ, ◌-◌, List, length, take, drop, sym, ap}
 use Rattle.std.proofs.lemmas.List.{append_cancel_left, drop-map, take-append-drop}
 use Rattle.proc_macro2.specs.Token.{plain}
-use Rattle.gram_read.proofs.Behind.{Left, plain_entries}
-use Rattle.gram_run.specs.Answers.{tokens}
+use Rattle.reader_rust.proofs.Behind.{Left, plain_entries}
+use Rattle.reader_steps.specs.Answers.{tokens}
 use Rattle.syn_buffer.specs.Behind.{Passes}
 use Rattle.syn_buffer.specs.Entries.{spanned_entries, spanned_entry}
 use Rattle.syn_buffer.specs.Position.{rest}

@@ -9,7 +9,7 @@ use Rattle.syn_grammar.specs.Gram.{punct}
 use Rattle.syn_grammar.specs.Run.{Call, Out, Refused, Got, interp, wrap, mark_at, mark_onto}
 use Rattle.syn_grammar.specs.Tree.{AMark, marks}
 use Rattle.syn_grammar.proofs.Sound.{mark_to}
-use Rattle.gram_tree.specs.Forms.{mark_of}
+use Rattle.reader_tree.specs.Forms.{mark_of}
 use Rattle.rust_map.specs.declared.span.Span.{Span}
 use Rattle.proc_macro2.specs.Flat.{spanned}
 use Rattle.proc_macro2.specs.Token.{Opens, Closes, Spanned}
@@ -17,10 +17,10 @@ use Rattle.proc_macro2.specs.declared.delimiter.Delimiter.{Delimiter}
 use Rattle.syn_buffer.specs.Entries.{is_whole, closes_with, spanned_entries, spanned_entry}
 use Rattle.syn_buffer.specs.declared.entry.Entry.{Entry}
 use Rattle.syn_buffer.specs.declared.entry.Entry.TheVariants as entry
-use Rattle.gram_look.proofs.Groups.{group_tokens, whole_balanced, whole_group}
-use Rattle.gram_look.proofs.Nested.{both, parts}
-use Rattle.gram_run.proofs.Groups.{others}
-use Rattle.gram_run.specs.Answers.{tokens}
+use Rattle.reader_tokens.proofs.Groups.{group_tokens, whole_balanced, whole_group}
+use Rattle.reader_tokens.proofs.Nested.{both, parts}
+use Rattle.reader_steps.proofs.Groups.{others}
+use Rattle.reader_steps.specs.Answers.{tokens}
 use Rattle.syn_read.specs.Reading.{StandsSign, NoSign, StandsGroup, NoGroup}
 
 -- a run that reads nothing

@@ -2,7 +2,7 @@
 use Rattle.std.proofs.Common.{◌≡◌, ◌∙◌, ◌-◌, ℕ, List, [], ◌∷◌, ◌++◌, length, drop, ap, subst, sym}
 use Rattle.std.proofs.lemmas.List.{map-append}
 use Rattle.std.specs.Prelude.{true}
-use Rattle.gram_run.specs.Answers.{tokens}
+use Rattle.reader_steps.specs.Answers.{tokens}
 use Rattle.proc_macro2.specs.Token.{Spanned, Token}
 use Rattle.rust_leaf.specs.declared.punct.Spacing.{Spacing}
 use Rattle.syn_buffer.specs.Entries.{is_whole, spanned_entries, spanned_entry}
@@ -12,7 +12,7 @@ use Rattle.syn_grammar.specs.Gram.{ref}
 use Rattle.syn_grammar.specs.Kind.{Kind}
 use Rattle.syn_grammar.specs.Read.{IsDerived}
 use Rattle.syn_grammar.specs.Tree.{Tree, flat, marks}
-use Rattle.gram_read.proofs.Behind.{Left, left}
+use Rattle.reader_rust.proofs.Behind.{Left, left}
 use Rattle.syn_read.specs.Reading.{StandsSign}
 
 -- behind some entries what is left are the last of the tokens, each where it stood

@@ -7,9 +7,9 @@ use Rattle.proc_macro2.specs.Token.{Token, Spanned, Opens, Closes, Ident, Litera
 use Rattle.proc_macro2.specs.declared.delimiter.Delimiter.{Delimiter}
 use Rattle.syn_grammar.specs.Tree.{marks}
 use Rattle.syn_grammar.specs.Gram.{is_balanced}
-use Rattle.gram_run.specs.Answers.{tokens}
-use Rattle.gram_run.specs.declared.refusal.Wanted.{Wanted}
-use Rattle.gram_read.specs.Said.{message}
+use Rattle.reader_steps.specs.Answers.{tokens}
+use Rattle.reader_steps.specs.declared.refusal.Wanted.{Wanted}
+use Rattle.reader_rust.specs.Said.{message}
 use Rattle.syn_buffer.specs.Entries.{spanned_entries}
 use Rattle.syn_buffer.specs.Position.{next_span}
 use Rattle.syn_buffer.specs.declared.entry.Entry.{Entry}
@@ -27,14 +27,14 @@ left r = tokens r.entries.now
 abbrev pub spanned_left : Reader → List Spanned
 spanned_left r = spanned_entries r.entries.now
 
--- The same list is read, from the same place on or from one behind it: what is left are the last of the tokens that were
--- left, each where it stood, and the same closes the list.
+-- The same list is read, from the same place on or from one behind it: what is left are the last of the tokens that
+-- were left, each where it stood, and the same closes the list.
 abbrev pub IsOnward : Reader → Reader → Type 0
 IsOnward old new =
     (new.closing ≡ old.closing) × ((passed : List Spanned) × (spanned_left old ≡ passed ++ spanned_left new))
 
--- A group was entered: both its marks stand where all of it does, its inside is left to what reads that, and what stands
--- behind it is left to the reader.
+-- A group was entered: both its marks stand where all of it does, its inside is left to what reads that, and what
+-- stands behind it is left to the reader.
 abbrev pub Enters : Delimiter → Entered → Reader → Reader → Type 0
 Enters d r old new =
     spanned_left old ≡ spanned (Opens d) r.span ∷ spanned_left r.inside ++ spanned (Closes d) r.span ∷ spanned_left new
@@ -64,8 +64,8 @@ StandsSign (c ∷ cs) spacing ts rest = ts ≡ marks c cs spacing ++ rest
 abbrev pub NoSign : List ℕ → List Token → Type 0
 NoSign text ts = (spacing : Spacing) (rest : List Token) → StandsSign text spacing ts rest → ⊥
 
--- A group with that delimiter stands first: its mark, its inside, in which each group is closed, its other mark, and the
--- rest.
+-- A group with that delimiter stands first: its mark, its inside, in which each group is closed, its other mark, and
+-- the rest.
 abbrev pub StandsGroup : Delimiter → List Token → List Token → List Token → Type 0
 StandsGroup d inside ts rest = (is_balanced inside ≡ true) × (ts ≡ Opens d ∷ inside ++ Closes d ∷ rest)
 
@@ -82,8 +82,8 @@ abbrev pub are_none : List Entry → Bool
 are_none [] = true
 are_none (e ∷ es) = false
 
--- A fault says that this was wanted, and that no token was left, where none was; it stands at the next token, or at what
--- closes the list. Want of memory says nothing.
+-- A fault says that this was wanted, and that no token was left, where none was; it stands at the next token, or at
+-- what closes the list. Want of memory says nothing.
 abbrev pub SaysWanted : Wanted → Reader → ParseFault → Type 0
 SaysWanted w r (fault.Syntax e) = Says (Some (message (are_none r.entries.now) w)) (standing r) (standing r) e
 SaysWanted w r fault.Memory = Unit {0}

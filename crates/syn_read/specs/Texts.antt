@@ -7,7 +7,7 @@ use Rattle.syn_error.specs.declared.fault.ParseFault.{ParseFault}
 use Rattle.syn_error.specs.declared.fault.ParseFault.TheVariants.{Syntax}
 use Rattle.syn_error.specs.declared.fault.TextFault.{TextFault}
 use Rattle.syn_error.specs.declared.fault.TextFault.TheVariants as fault
-use Rattle.gram_tree.specs.declared.arena.Arena.{Arena}
+use Rattle.reader_tree.specs.declared.arena.Arena.{Arena}
 use denote.Bor.{Bor}
 
 -- a function may answer so, lent some arena and some buffer of these tokens

@@ -1,6 +1,6 @@
 //! Forms that may be missing.
 
-ghost use Rattle.gram_table.specs.Looks.{look_of};
+ghost use Rattle.reader_table.specs.Looks.{look_of};
 ghost use Rattle.std.specs.Prelude.{◌≡◌, IfErr, IfNone, IfOk, IfSome, OnErr, false, true};
 ghost use Rattle.syn_read.specs.Optional.{abi_stands, bound_lifetimes_stand, where_clause_stands};
 ghost use Rattle.syn_read.specs.Reading.{IsOnward, left};
@@ -10,8 +10,8 @@ ghost use Rattle.syn_grammar.specs.Read.{IsDerived, NoneRead};
 ghost use Rattle.syn_grammar.specs.Tree.{Tree as GivenTree};
 
 use crate::reader::Reader;
-use gram_table::op::Look;
-use gram_table::word::{Keyword, Words};
+use reader_table::op::Look;
+use reader_table::word::{Keyword, Words};
 use syn_ast::generics::WhereClause;
 use syn_ast::types::{Abi, BoundLifetimes};
 use syn_error::ParseFault;

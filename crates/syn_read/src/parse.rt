@@ -1,20 +1,20 @@
 //! Tokens that are one form of a kind.
 
-ghost use Rattle.gram_run.specs.Answers.{tokens};
-ghost use Rattle.gram_table.specs.Kinds.{kind_of};
+ghost use Rattle.reader_steps.specs.Answers.{tokens};
+ghost use Rattle.reader_table.specs.Kinds.{kind_of};
 ghost use Rattle.std.specs.Prelude.{IfErr, IfOk};
 ghost use Rattle.syn_read.specs.Parsed.{IsAll, IsNone};
 ghost use Rattle.syn_error.specs.Faults.{IsSyntax};
 ghost use Rattle.syn_grammar.specs.Kind.{AFile};
 ghost use Rattle.syn_grammar.specs.Read.{IsDerived, NoneRead};
 
-use gram_read::grammar::Grammar;
-use gram_read::said::error;
-use gram_run::read::read;
-use gram_run::refusal::{Refusal, Wanted, Wrong};
-use gram_table::kind::Kind;
-use gram_tree::arena::Arena;
-use gram_tree::tree::Tree;
+use reader_rust::grammar::Grammar;
+use reader_rust::said::error;
+use reader_steps::read::read;
+use reader_steps::refusal::{Refusal, Wanted, Wrong};
+use reader_table::kind::Kind;
+use reader_tree::arena::Arena;
+use reader_tree::tree::Tree;
 use std::alloc::Global;
 use syn_buffer::TokenBuffer;
 use syn_buffer::entry::Entry;

@@ -3,16 +3,17 @@
 ghost use Rattle.std.specs.Prelude.{IsTrue};
 ghost use Rattle.syn_buffer.specs.Entries.{is_whole};
 
-use gram_tree::arena::Arena;
+use reader_tree::arena::Arena;
 use rust_leaf::punct::Spacing;
 use rust_map::span::Span;
 use syn_buffer::entry::Entry;
 
-/// A place among the tokens of a buffer, or of a group in it, from which forms and tokens are read one behind the other.
-/// A copy of it is a fork: each goes on by itself.
+/// A place among the tokens of a buffer, or of a group in it, from which forms and tokens are read one behind the
+/// other. A copy of it is a fork: each goes on by itself.
 ///
-/// To a contract it is the list of tokens that are left up to the end of the buffer or of the group, each with where it
-/// stands, and where that list closes. Each group among them is whole, and invisible groups are tokens as all others are.
+/// To a contract it is the list of tokens that are left up to the end of the buffer or of the group, each with where
+/// it stands, and where that list closes. Each group among them is whole, and invisible groups are tokens as all
+/// others are.
 #[derive(Clone, Copy)]
 pub struct Reader<'a> {
     pub(crate) entries: &'a [Entry<'a>],

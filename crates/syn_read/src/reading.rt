@@ -1,10 +1,10 @@
 //! Reading forms and tokens one behind the other.
 
-ghost use Rattle.gram_run.specs.Answers.{tokens};
-ghost use Rattle.gram_table.specs.Kinds.{kind_of};
-ghost use Rattle.gram_table.specs.Looks.{look_of};
-ghost use Rattle.gram_table.specs.Words.{literals_of, sign_text, words_of};
-ghost use Rattle.gram_run.specs.declared.refusal.Wanted.TheVariants as wanted;
+ghost use Rattle.reader_steps.specs.Answers.{tokens};
+ghost use Rattle.reader_table.specs.Kinds.{kind_of};
+ghost use Rattle.reader_table.specs.Looks.{look_of};
+ghost use Rattle.reader_table.specs.Words.{literals_of, sign_text, words_of};
+ghost use Rattle.reader_steps.specs.declared.refusal.Wanted.TheVariants as wanted;
 ghost use Rattle.rust_leaf.specs.Leaf.{ident_span, ident_text, literal_span, literal_text};
 ghost use Rattle.rust_map.specs.Spans.{call_site, last_of};
 ghost use Rattle.std.specs.Prelude.{◌++◌, ◌-◌, ◌↔◌, ◌≡◌, ◌≤◌, [], IfErr, IfNone, IfOk, IfSome, IsTrue, List, OnErr};
@@ -19,18 +19,18 @@ ghost use Rattle.syn_grammar.specs.Look.{sees};
 ghost use Rattle.syn_grammar.specs.Read.{IsDerived, NoneRead};
 
 use crate::reader::{Entered, ReadSign, Reader};
-use gram_look::{leaf, literals, sign};
-use gram_read::grammar::Grammar;
-use gram_read::said::error;
-use gram_run::read::read;
-use gram_run::refusal::{Refusal, Wanted, Wrong};
-use gram_run::rules::Rules;
-use gram_table::kind::Kind;
-use gram_table::op::{Look, Test};
-use gram_table::word::{Literals, Sign, Words};
-use gram_tree::arena::Arena;
-use gram_tree::tree::Tree;
 use proc_macro2::delimiter::Delimiter;
+use reader_rust::grammar::Grammar;
+use reader_rust::said::error;
+use reader_steps::read::read;
+use reader_steps::refusal::{Refusal, Wanted, Wrong};
+use reader_steps::rules::Rules;
+use reader_table::kind::Kind;
+use reader_table::op::{Look, Test};
+use reader_table::word::{Literals, Sign, Words};
+use reader_tokens::{leaf, literals, sign};
+use reader_tree::arena::Arena;
+use reader_tree::tree::Tree;
 use rust_leaf::ident::Ident;
 use rust_leaf::literal::Literal;
 use rust_map::span::Span;
@@ -97,8 +97,8 @@ impl<'a> Reader<'a> {
         self.entries.is_empty()
     }
 
-    /// Where the next token stands, of a group all of it. At the end of a group's inside it is the group's closing mark, and
-    /// at the end of the buffer the call site.
+    /// Where the next token stands, of a group all of it. At the end of a group's inside it is the group's closing
+    /// mark, and at the end of the buffer the call site.
     pub fn span(&self) -> Span
         ensures { result ≡ standing self.now }
     {
@@ -159,8 +159,8 @@ impl<'a> Reader<'a> {
     ///
     /// # Errors
     ///
-    /// `Syntax` exactly where none does: the error says what was wanted, at the token that stands in its place. `Memory`
-    /// only where a growth was refused. The reader then stands where it stood.
+    /// `Syntax` exactly where none does: the error says what was wanted, at the token that stands in its place.
+    /// `Memory` only where a growth was refused. The reader then stands where it stood.
     pub fn parse(&mut self, kind: Kind) -> Result<Tree<'a>, ParseFault>
         ensures read { IfOk result (λ x. IsDerived (kind_of kind) (left self.old) x (left self.new)) }
         ensures refused { IfErr result (λ e. IsSyntax e → NoneRead (kind_of kind) (left self.old)) }
@@ -299,7 +299,8 @@ impl<'a> Reader<'a> {
     ///
     /// # Errors
     ///
-    /// `Syntax` exactly where something is: the error stands at the next token. `Memory` only where its text found none.
+    /// `Syntax` exactly where something is: the error stands at the next token. `Memory` only where its text found
+    /// none.
     pub fn finish(self) -> Result<(), ParseFault>
         ensures done { IfOk result (λ _. left self.entry ≡ []) }
         ensures refused { IfErr result (λ _. left self.entry ≡ [] → ⊥) }

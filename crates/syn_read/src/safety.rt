@@ -4,7 +4,7 @@ ghost use Rattle.syn_read.specs.Optional.{ReadsMutability, ReadsSafety, ReadsUns
 ghost use Rattle.syn_read.specs.Reading.{IsOnward};
 
 use crate::reader::Reader;
-use gram_table::word::{Keyword, Words};
+use reader_table::word::{Keyword, Words};
 use syn_data::item::StaticMutability;
 use syn_item::function::Safety;
 

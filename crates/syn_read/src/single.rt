@@ -1,6 +1,6 @@
 //! Forms that are one of several of a kind, read by themselves.
 
-ghost use Rattle.gram_run.specs.Answers.{tokens};
+ghost use Rattle.reader_steps.specs.Answers.{tokens};
 ghost use Rattle.proc_macro2.specs.Token.{Token};
 ghost use Rattle.std.specs.Prelude.{◌≡◌, IfErr, IfOk, IsErrAnd, IsFalse, IsTrue, List, OnErr, OnOk};
 ghost use Rattle.syn_read.specs.Parsed.{IsAll, first_place};
@@ -16,7 +16,7 @@ ghost use Rattle.syn_input.specs.Words.{SaysAt};
 use crate::parse::parse_as;
 use crate::reader::Reader;
 use crate::stream::ParseForms;
-use gram_tree::arena::Arena;
+use reader_tree::arena::Arena;
 use syn_buffer::TokenBuffer;
 use syn_error::ParseFault;
 use syn_input::ParseBuffer;
@@ -27,8 +27,9 @@ pub use syn_single::ParseSingle;
 ///
 /// # Errors
 ///
-/// `Syntax` exactly where they are no form of the kind, which the error says as that of `parse_as` does, or where they are
-/// another form: the error then says what was wanted, at the first token. `Memory` only where a growth was refused.
+/// `Syntax` exactly where they are no form of the kind, which the error says as that of `parse_as` does, or where they
+/// are another form: the error then says what was wanted, at the first token. `Memory` only where a growth was
+/// refused.
 pub fn parse2_single<'a, T: ParseSingle<'a>>(
     arena: &'a Arena,
     buffer: &'a TokenBuffer<'a>,
@@ -63,9 +64,9 @@ impl<'a> Reader<'a> {
     ///
     /// # Errors
     ///
-    /// `Syntax` exactly where no form of the kind stands, as `parse` says it, or where another one stands: the error then
-    /// says what was wanted, at the next token. `Memory` only where a growth was refused. The reader then stands where it
-    /// stood.
+    /// `Syntax` exactly where no form of the kind stands, as `parse` says it, or where another one stands: the error
+    /// then says what was wanted, at the next token. `Memory` only where a growth was refused. The reader then stands
+    /// where it stood.
     pub fn single<T: ParseSingle<'a>>(&mut self) -> Result<T, ParseFault>
         ensures read { IfOk result (λ x. (tree : GivenTree)
             × IsDerived T.kind (reading.left self.old) tree (reading.left self.new)

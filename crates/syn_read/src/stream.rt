@@ -1,7 +1,7 @@
 //! Forms that are read from a stream, among tokens that are read one by one.
 
-ghost use Rattle.gram_table.specs.Kinds.{kind_of};
-ghost use Rattle.gram_table.specs.Looks.{look_of};
+ghost use Rattle.reader_table.specs.Kinds.{kind_of};
+ghost use Rattle.reader_table.specs.Looks.{look_of};
 ghost use Rattle.std.specs.Prelude.{◌≡◌, ◌&&◌, IfErr, IfNone, IfOk, IfSome, IsErrAnd, IsFalse, IsTrue, MatchOption, OnErr};
 ghost use Rattle.std.specs.Prelude.{OnOk, false, true};
 ghost use Rattle.syn_read.specs.Streams.{IsPassed, invisible_words};
@@ -15,15 +15,15 @@ ghost use Rattle.syn_input.specs.Words.{SaysAt};
 
 use crate::optional::ParseOptional;
 use crate::peek::operand_stands;
-use gram_read::grammar::Grammar;
-use gram_read::said::error;
-use gram_run::read::read;
-use gram_run::refusal::{Refusal, Wrong};
-use gram_run::rules::Rules;
-use gram_table::kind::Kind;
-use gram_table::op::{Look, Test};
-use gram_tree::arena::Arena;
-use gram_tree::tree::Tree;
+use reader_rust::grammar::Grammar;
+use reader_rust::said::error;
+use reader_steps::read::read;
+use reader_steps::refusal::{Refusal, Wrong};
+use reader_steps::rules::Rules;
+use reader_table::kind::Kind;
+use reader_table::op::{Look, Test};
+use reader_tree::arena::Arena;
+use reader_tree::tree::Tree;
 use syn_error::ParseFault;
 use syn_input::ParseBuffer;
 use syn_typed::Parse;
@@ -36,13 +36,13 @@ pub trait ParseForms<'a> {
     ///
     /// # Errors
     ///
-    /// `Syntax` exactly where none does: the error says what was wanted, at the token that stands in its place; and where
-    /// an invisible group stands in the buffer, which it then says. `Memory` only where a growth was refused. The stream
-    /// then stands where it stood.
+    /// `Syntax` exactly where none does: the error says what was wanted, at the token that stands in its place; and
+    /// where an invisible group stands in the buffer, which it then says. `Memory` only where a growth was refused.
+    /// The stream then stands where it stood.
     fn parse_as(&mut self, arena: &'a Arena, kind: Kind) -> Result<Tree<'a>, ParseFault>;
 
-    /// Whether an expression begins there, by the first tokens alone, as `Expr::peek` of syn says it. Where an invisible
-    /// group stands in the buffer none does.
+    /// Whether an expression begins there, by the first tokens alone, as `Expr::peek` of syn says it. Where an
+    /// invisible group stands in the buffer none does.
     fn begins_expression(&self) -> bool;
 }
 

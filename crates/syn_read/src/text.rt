@@ -8,8 +8,8 @@ ghost use Rattle.syn_error.specs.Faults.{IsSyntax};
 ghost use Rattle.syn_error.specs.declared.fault.TextFault.TheVariants.{MapFull};
 ghost use Rattle.syn_input.specs.Whole.{LeavesMap, ReadsText, RefusesText};
 
-use gram_tree::arena::Arena;
 use proc_macro2::tree::TokenStream;
+use reader_tree::arena::Arena;
 use rust_map::source_map::SourceMap;
 use std::alloc::Global;
 use syn_buffer::TokenBuffer;
@@ -40,8 +40,8 @@ fn read_stream<T, F: FnOnce(&Arena, &TokenBuffer<'_>) -> Result<T, ParseFault>>(
 /// # Errors
 ///
 /// `MapFull` exactly if the map has no positions left for the text, else `Lexical` where the text has a lexical fault,
-/// `Syntax` where the function answers that, and `Memory` only where it does or a growth was refused. The first two leave
-/// the map as it was.
+/// `Syntax` where the function answers that, and `Memory` only where it does or a growth was refused. The first two
+/// leave the map as it was.
 pub fn parse_str_with<T, F: FnOnce(&Arena, &TokenBuffer<'_>) -> Result<T, ParseFault>>(
     alloc: Global,
     text: &str,

@@ -1,6 +1,6 @@
 //! Forms that are read as the types of the syntax tree.
 
-ghost use Rattle.gram_run.specs.Answers.{tokens};
+ghost use Rattle.reader_steps.specs.Answers.{tokens};
 ghost use Rattle.std.specs.Prelude.{◌≡◌, IfErr, IfOk, OnErr};
 ghost use Rattle.syn_read.specs.Parsed.{IsAll, IsNone};
 ghost use Rattle.syn_read.specs.Reading.{IsOnward, left};
@@ -10,7 +10,7 @@ ghost use Rattle.syn_grammar.specs.Tree.{Tree as GivenTree};
 
 use crate::parse::parse_as;
 use crate::reader::Reader;
-use gram_tree::arena::Arena;
+use reader_tree::arena::Arena;
 use syn_buffer::TokenBuffer;
 use syn_error::ParseFault;
 pub use syn_typed::Parse;

@@ -3,7 +3,7 @@
 //! `ExprCall` is one form of an expression: where one is wanted, an expression is read, all of it, and refused if it is
 //! of another form. So of `f(x) + 1` no call is read, which is an operand there.
 
-ghost use Rattle.gram_table.specs.Kinds.{kind_of};
+ghost use Rattle.reader_table.specs.Kinds.{kind_of};
 ghost use Rattle.proc_macro2.specs.Token.{Token};
 ghost use Rattle.std.specs.Prelude.{◌≡◌, List, MatchOption};
 ghost use Rattle.syn_grammar.specs.Derives.{Derives};
@@ -11,11 +11,11 @@ ghost use Rattle.syn_grammar.specs.Gram.{ref};
 ghost use Rattle.syn_grammar.specs.Kind.{Kind as GivenKind};
 ghost use Rattle.syn_grammar.specs.Tree.{Tree as GivenTree};
 
-use gram_table::kind::Kind;
-use gram_tree::tree::Tree;
+use reader_table::kind::Kind;
+use reader_tree::tree::Tree;
 
-/// A type of the syntax tree that is one of several forms of a kind, as `ExprCall` is of expressions. It is read as that
-/// kind, and refused where another form stands.
+/// A type of the syntax tree that is one of several forms of a kind, as `ExprCall` is of expressions. It is read as
+/// that kind, and refused where another form stands.
 pub trait ParseSingle<'a> {
     /// The kind of the grammar that is read.
     ghost kind: { GivenKind };

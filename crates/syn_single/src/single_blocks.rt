@@ -7,7 +7,7 @@ ghost use Rattle.syn_expr.specs.ExprWhole.{expr_paren, expr_tuple};
 ghost use Rattle.syn_expr.specs.declared.expr.whole.ExprForm.TheVariants as exprs;
 
 use crate::single_expr::SingleExpr;
-use gram_tree::tree::Tree;
+use reader_tree::tree::Tree;
 use syn_expr::blocks::{
     ExprArray, ExprAsync, ExprBlock, ExprForLoop, ExprIf, ExprLoop, ExprMacro, ExprMatch, ExprPath,
     ExprRepeat, ExprUnsafe, ExprWhile,

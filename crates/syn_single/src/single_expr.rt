@@ -1,6 +1,6 @@
 //! Single forms of expressions: whichever of them stands, an expression is read.
 
-ghost use Rattle.gram_table.specs.Kinds.{kind_of};
+ghost use Rattle.reader_table.specs.Kinds.{kind_of};
 ghost use Rattle.std.specs.Prelude.{◌≡◌, MatchOption, Some};
 ghost use Rattle.syn_single.specs.Meant.{IsExprOf, IsFormOf};
 ghost use Rattle.syn_expr.specs.ExprWhole.{which};
@@ -10,8 +10,8 @@ ghost use Rattle.syn_grammar.specs.Kind as k;
 ghost use Rattle.syn_grammar.specs.Tree.{Tree as GivenTree};
 
 use crate::single::ParseSingle;
-use gram_table::kind::{Kind, Position};
-use gram_tree::tree::Tree;
+use reader_table::kind::{Kind, Position};
+use reader_tree::tree::Tree;
 use syn_expr::expr::whole::Expr;
 
 /// A form of expressions, as `ExprCall`.

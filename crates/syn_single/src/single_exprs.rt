@@ -11,7 +11,7 @@ ghost use Rattle.syn_expr.specs.ExprWhole.{which};
 ghost use Rattle.syn_expr.specs.declared.expr.whole.ExprForm.TheVariants as exprs;
 
 use crate::single_expr::SingleExpr;
-use gram_tree::tree::Tree;
+use reader_tree::tree::Tree;
 use syn_expr::expr::infix::{ExprAssign, ExprBinary};
 use syn_expr::expr::jumps::{ExprBreak, ExprRange, ExprReturn, ExprYield};
 use syn_expr::expr::postfix::{

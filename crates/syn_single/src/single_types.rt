@@ -1,6 +1,6 @@
 //! Forms of types, and of what stands in an attribute, each read as a single form.
 
-ghost use Rattle.gram_table.specs.Kinds.{kind_of};
+ghost use Rattle.reader_table.specs.Kinds.{kind_of};
 ghost use Rattle.std.specs.Prelude.{◌≡◌, false, true};
 ghost use Rattle.syn_ast.specs.Attributes.{meta};
 ghost use Rattle.syn_ast.specs.Types.{type_array, type_paren, type_slice, type_tuple};
@@ -9,8 +9,8 @@ ghost use Rattle.syn_grammar.specs.Kind as k;
 ghost use Rattle.syn_single.specs.Meant.{has_length, has_tokens, has_value, is_lone_type};
 
 use crate::single::ParseSingle;
-use gram_table::kind::Kind;
-use gram_tree::tree::Tree;
+use reader_table::kind::Kind;
+use reader_tree::tree::Tree;
 use syn_ast::attributes::{Meta, MetaList, MetaNameValue};
 use syn_ast::types::{
     TypeArray, TypeBracketed, TypeParen, TypeParenthesized, TypeSlice, TypeTuple,

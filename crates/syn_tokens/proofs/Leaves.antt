@@ -1,7 +1,7 @@
 -- Leaves that are put behind others, and the tokens of a tree by its form.
 use Rattle.std.proofs.Common.{◌≡◌, List, [], ◌∷◌, ◌++◌, refl, sym, ap, ◌∙◌, append_assoc}
 use Rattle.std.proofs.lemmas.List.{append-nil}
-use Rattle.gram_tree.proofs.Flat.{flat_seconds, flat_elements}
+use Rattle.reader_tree.proofs.Flat.{flat_seconds, flat_elements}
 use Rattle.syn_tokens.specs.Leaves.{leaf_tokens, leaves_tokens}
 use Rattle.syn_tokens.specs.declared.leaf.Leaf.{Leaf}
 

@@ -6,9 +6,9 @@ use Rattle.std.proofs.lemmas.Str.{chars-IsAscii}
 use Rattle.unicode_ident.proofs.Computing.{unicode_ident}
 use Rattle.rust_leaf.proofs.Texts.{ascii_word}
 use Rattle.rust_leaf.specs.Identifier.{is_ident_text}
-use Rattle.gram_piece.specs.Pieces.{piece_token}
-use Rattle.gram_piece.specs.declared.piece.Piece.{Piece}
-use Rattle.gram_piece.specs.declared.piece.Piece.TheVariants as pieces
+use Rattle.writer_print.specs.Pieces.{piece_token}
+use Rattle.writer_print.specs.declared.piece.Piece.{Piece}
+use Rattle.writer_print.specs.declared.piece.Piece.TheVariants as pieces
 use Rattle.std.specs.Prelude.{Bool, true, false, ◌&&◌, not, reverse, if◌then◌else◌}
 use Rattle.rust_map.specs.declared.span.Span.{Span}
 use Rattle.std.proofs.lemmas.List.{append-nil, map-append, reverse-append, at_drop_more}

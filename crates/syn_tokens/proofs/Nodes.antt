@@ -5,8 +5,8 @@ use Rattle.std.proofs.lemmas.List.{append-nil}
 use Rattle.rust_leaf.specs.declared.punct.Spacing.{Spacing}
 use Rattle.syn_grammar.specs.Tree as t
 use Rattle.syn_grammar.specs.Tree.{Tree}
-use Rattle.gram_tree.specs.Forms.{elements, mark_of, seconds}
-use Rattle.gram_tree.specs.declared.tree.Element.{Element}
+use Rattle.reader_tree.specs.Forms.{elements, mark_of, seconds}
+use Rattle.reader_tree.specs.declared.tree.Element.{Element}
 use Rattle.syn_tokens.specs.Nodes.{nodes}
 
 pub one : {A B : Type 0} (f : A → B) (xs : List A) (x : A) → map f (xs ++ x ∷ []) ≡ map f xs ++ f x ∷ []

@@ -5,9 +5,9 @@ use Rattle.rust_leaf.specs.declared.punct.Spacing.TheVariants.{Joint}
 use Rattle.proc_macro2.specs.Token.{Token, Opens, Closes, Ident, Literal, Punct}
 use Rattle.syn_buffer.specs.Entries.{entry_token}
 use Rattle.syn_grammar.specs.Tree.{flat}
-use Rattle.gram_table.specs.Ops.{separator_of}
-use Rattle.gram_table.specs.Words.{sign_text}
-use Rattle.gram_tree.specs.Forms.{mark_of}
+use Rattle.reader_table.specs.Ops.{separator_of}
+use Rattle.reader_table.specs.Words.{sign_text}
+use Rattle.reader_tree.specs.Forms.{mark_of}
 use Rattle.syn_tokens.specs.declared.leaf.Leaf.{Leaf}
 use Rattle.syn_tokens.specs.declared.leaf.Leaf.TheVariants as leaves
 

@@ -15,8 +15,8 @@ is_leaf (Ident cs) = true
 is_leaf (Literal cs) = not (starts_with_minus cs)
 is_leaf (Punct c spacing) = is_mark c
 
--- Inside groups with these delimiters, the innermost first, they are the rest of a stream: each of these groups, and each
--- that opens among them, is closed by a mark of its own, and all others are trees by themselves.
+-- Inside groups with these delimiters, the innermost first, they are the rest of a stream: each of these groups, and
+-- each that opens among them, is closed by a mark of its own, and all others are trees by themselves.
 abbrev pub stand : List Delimiter → List Token → Bool
 stand ds (Opens d ∷ ts) = stand (d ∷ ds) ts
 stand [] (Closes d ∷ ts) = false

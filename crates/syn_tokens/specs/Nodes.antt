@@ -1,4 +1,5 @@
--- The nodes of a tree and the forms of its expressions, each before those that stand in it, in the order of their tokens.
+-- The nodes of a tree and the forms of its expressions, each before those that stand in it, in the order of their
+-- tokens.
 use Rattle.std.specs.Prelude.{List, [], ◌∷◌, ◌++◌}
 use Rattle.syn_grammar.specs.Tree.{Tree, Pair, First, Second, Again, Final, More, Group, Dropped, Called, Verbatim}
 use Rattle.syn_grammar.specs.Tree.{Node, Whole, Alone, Front, Back, Infix}

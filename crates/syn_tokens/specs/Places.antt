@@ -4,17 +4,17 @@ use Rattle.rust_map.specs.Spans.{call_site}
 use Rattle.rust_map.specs.declared.span.Span.{Span}
 use Rattle.proc_macro2.specs.Flat.{spanned}
 use Rattle.proc_macro2.specs.Token.{Spanned, Opens, Closes}
-use Rattle.gram_piece.specs.Pieces.{piece_span, piece_token}
-use Rattle.gram_piece.specs.declared.piece.Piece.{Piece}
-use Rattle.gram_piece.specs.declared.piece.Piece.TheVariants as pieces
+use Rattle.writer_print.specs.Pieces.{piece_span, piece_token}
+use Rattle.writer_print.specs.declared.piece.Piece.{Piece}
+use Rattle.writer_print.specs.declared.piece.Piece.TheVariants as pieces
 use Rattle.syn_tokens.specs.declared.tokens.Nest.{Nest}
 use Rattle.syn_tokens.specs.declared.tokens.Outer.{Outer}
 
 abbrev pub placed_piece : Piece → Spanned
 placed_piece p = spanned (piece_token p) (piece_span p)
 
--- Tokens inside groups that stand there, the innermost first, each where it stands: what closes a group stands where all
--- of the group does.
+-- Tokens inside groups that stand there, the innermost first, each where it stands: what closes a group stands where
+-- all of the group does.
 abbrev pub placed : List Span → List Piece → List Spanned
 placed ss [] = []
 placed ss (pieces.Open d s ∷ ps) = spanned (Opens d) s ∷ placed (s ∷ ss) ps

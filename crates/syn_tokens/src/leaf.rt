@@ -1,17 +1,17 @@
 //! The leaves of what was read, in their order.
 
-ghost use Rattle.gram_table.specs.Ops.{separator_of};
-ghost use Rattle.gram_tree.specs.Forms.{elements, turns};
-ghost use Rattle.gram_way.specs.Front.{Keeps};
+ghost use Rattle.reader_table.specs.Ops.{separator_of};
+ghost use Rattle.reader_tree.specs.Forms.{elements, turns};
+ghost use Rattle.writer_rules.specs.Front.{Keeps};
 ghost use Rattle.std.specs.Prelude.{◌≡◌, ◌++◌, OnOk};
 ghost use Rattle.syn_tokens.specs.Leaves.{leaf_tokens, leaves_tokens};
 ghost use Rattle.syn_grammar.specs.Tree as t;
 ghost use Rattle.syn_grammar.specs.Tree.{flat};
 
-use gram_table::op::Separator;
-use gram_table::word::Sign;
-use gram_tree::tree::{Element, Form, Tree, Two};
 use proc_macro2::delimiter::Delimiter;
+use reader_table::op::Separator;
+use reader_table::word::Sign;
+use reader_tree::tree::{Element, Form, Tree, Two};
 use rust_leaf::ident::Ident;
 use rust_leaf::literal::Literal;
 use rust_leaf::punct::Spacing;
@@ -41,7 +41,7 @@ pub enum Leaf<'a> {
 }
 
 // One leaf more.
-#[tactic(auto, using(crate::proofs::Leaves::one, gram_way::proofs::Fronts::kept))]
+#[tactic(auto, using(crate::proofs::Leaves::one, writer_rules::proofs::Fronts::kept))]
 fn put<'a>(leaf: Leaf<'a>, out: &mut Vec<Leaf<'a>>) -> Result<(), AllocError>
     ensures put { OnOk result (leaves_tokens out.new.items ≡ leaves_tokens out.old.items ++ leaf_tokens leaf.entry) }
     ensures keeps { Keeps out.old.items out.new.items }
@@ -55,10 +55,10 @@ fn put<'a>(leaf: Leaf<'a>, out: &mut Vec<Leaf<'a>>) -> Result<(), AllocError>
 ///
 /// # Errors
 ///
-/// Where there is no memory for more leaves. Those that were given stand in front then too, perhaps with some of the tree's
-/// behind them.
+/// Where there is no memory for more leaves. Those that were given stand in front then too, perhaps with some of the
+/// tree's behind them.
 #[cycle(leaves)]
-#[tactic(auto, using(crate::proofs::Leaves::forms, gram_way::proofs::Fronts::kept))]
+#[tactic(auto, using(crate::proofs::Leaves::forms, writer_rules::proofs::Fronts::kept))]
 pub fn put_leaves<'a>(tree: &Tree<'a>, out: &mut Vec<Leaf<'a>>) -> Result<(), AllocError>
     ensures put { OnOk result (leaves_tokens out.new.items ≡ leaves_tokens out.old.items ++ flat tree.now) }
     ensures keeps { Keeps out.old.items out.new.items }
@@ -101,7 +101,7 @@ pub fn put_leaves<'a>(tree: &Tree<'a>, out: &mut Vec<Leaf<'a>>) -> Result<(), Al
 
 // The leaves of two trees.
 #[cycle(leaves)]
-#[tactic(auto, using(crate::proofs::Leaves::puts, gram_way::proofs::Fronts::kept))]
+#[tactic(auto, using(crate::proofs::Leaves::puts, writer_rules::proofs::Fronts::kept))]
 fn put_two<'a>(two: &Two<'a>, out: &mut Vec<Leaf<'a>>) -> Result<(), AllocError>
     ensures put { OnOk result (leaves_tokens out.new.items
         ≡ leaves_tokens out.old.items ++ (flat two.now.front ++ flat two.now.back)) }
@@ -113,7 +113,7 @@ fn put_two<'a>(two: &Two<'a>, out: &mut Vec<Leaf<'a>>) -> Result<(), AllocError>
 
 // The leaves of turns.
 #[cycle(leaves)]
-#[tactic(auto, using(crate::proofs::Leaves::puts, gram_way::proofs::Fronts::kept))]
+#[tactic(auto, using(crate::proofs::Leaves::puts, writer_rules::proofs::Fronts::kept))]
 fn put_turns<'a>(trees: &[Tree<'a>], out: &mut Vec<Leaf<'a>>) -> Result<(), AllocError>
     ensures put { OnOk result (leaves_tokens out.new.items
         ≡ leaves_tokens out.old.items ++ flat (turns trees.now)) }
@@ -127,7 +127,7 @@ fn put_turns<'a>(trees: &[Tree<'a>], out: &mut Vec<Leaf<'a>>) -> Result<(), Allo
 
 // The leaves of elements, and of the mark behind each.
 #[cycle(leaves)]
-#[tactic(auto, using(crate::proofs::Leaves::puts, gram_way::proofs::Fronts::kept))]
+#[tactic(auto, using(crate::proofs::Leaves::puts, writer_rules::proofs::Fronts::kept))]
 fn put_elements<'a>(
     mark: Separator,
     before: &[Element<'a>],

@@ -1,16 +1,16 @@
 //! The nodes of what was read, in their order.
 
-ghost use Rattle.gram_tree.specs.Forms.{elements, turns};
-ghost use Rattle.gram_way.specs.Front.{Keeps};
+ghost use Rattle.reader_tree.specs.Forms.{elements, turns};
+ghost use Rattle.writer_rules.specs.Front.{Keeps};
 ghost use Rattle.std.specs.Prelude.{◌≡◌, ◌++◌, ◌∷◌, [], OnOk, map};
 ghost use Rattle.syn_tokens.specs.Nodes.{nodes};
 ghost use Rattle.syn_grammar.specs.Tree as t;
 
-use gram_tree::tree::{Element, Form, Tree, Two};
+use reader_tree::tree::{Element, Form, Tree, Two};
 use std::alloc::AllocError;
 
 // One more.
-#[tactic(auto, using(crate::proofs::Nodes::one, gram_way::proofs::Fronts::kept))]
+#[tactic(auto, using(crate::proofs::Nodes::one, writer_rules::proofs::Fronts::kept))]
 fn put<'t, 'a>(tree: &'t Tree<'a>, out: &mut Vec<&'t Tree<'a>>) -> Result<(), AllocError>
     ensures put { OnOk result (map (λ x. x.now) out.new.items ≡ map (λ x. x.now) out.old.items ++ tree.now ∷ []) }
     ensures keeps { Keeps out.old.items out.new.items }
@@ -25,10 +25,10 @@ fn put<'t, 'a>(tree: &'t Tree<'a>, out: &mut Vec<&'t Tree<'a>>) -> Result<(), Al
 ///
 /// # Errors
 ///
-/// Where there is no memory for more of them. Those that are given stand in front then too, perhaps with some of the tree's
-/// behind them.
+/// Where there is no memory for more of them. Those that are given stand in front then too, perhaps with some of the
+/// tree's behind them.
 #[cycle(nodes)]
-#[tactic(auto, using(crate::proofs::Nodes::forms, gram_way::proofs::Fronts::kept))]
+#[tactic(auto, using(crate::proofs::Nodes::forms, writer_rules::proofs::Fronts::kept))]
 pub fn put_nodes<'t, 'a>(tree: &'t Tree<'a>, out: &mut Vec<&'t Tree<'a>>) -> Result<(), AllocError>
     ensures put { OnOk result (map (λ x. x.now) out.new.items ≡ map (λ x. x.now) out.old.items ++ nodes tree.now) }
     ensures keeps { Keeps out.old.items out.new.items }
@@ -71,7 +71,7 @@ pub fn put_nodes<'t, 'a>(tree: &'t Tree<'a>, out: &mut Vec<&'t Tree<'a>>) -> Res
 
 // Those of two trees.
 #[cycle(nodes)]
-#[tactic(auto, using(crate::proofs::Nodes::puts, gram_way::proofs::Fronts::kept))]
+#[tactic(auto, using(crate::proofs::Nodes::puts, writer_rules::proofs::Fronts::kept))]
 fn put_two<'t, 'a>(two: &'t Two<'a>, out: &mut Vec<&'t Tree<'a>>) -> Result<(), AllocError>
     ensures put { OnOk result (map (λ x. x.now) out.new.items
         ≡ map (λ x. x.now) out.old.items ++ (nodes two.now.front ++ nodes two.now.back)) }
@@ -83,7 +83,7 @@ fn put_two<'t, 'a>(two: &'t Two<'a>, out: &mut Vec<&'t Tree<'a>>) -> Result<(), 
 
 // Those of turns.
 #[cycle(nodes)]
-#[tactic(auto, using(crate::proofs::Nodes::puts, gram_way::proofs::Fronts::kept))]
+#[tactic(auto, using(crate::proofs::Nodes::puts, writer_rules::proofs::Fronts::kept))]
 fn put_turns<'t, 'a>(trees: &'t [Tree<'a>], out: &mut Vec<&'t Tree<'a>>) -> Result<(), AllocError>
     ensures put { OnOk result (map (λ x. x.now) out.new.items
         ≡ map (λ x. x.now) out.old.items ++ nodes (turns trees.now)) }
@@ -97,7 +97,7 @@ fn put_turns<'t, 'a>(trees: &'t [Tree<'a>], out: &mut Vec<&'t Tree<'a>>) -> Resu
 
 // Those of elements, whatever mark stands behind each.
 #[cycle(nodes)]
-#[tactic(auto, using(crate::proofs::Nodes::puts, gram_way::proofs::Fronts::kept))]
+#[tactic(auto, using(crate::proofs::Nodes::puts, writer_rules::proofs::Fronts::kept))]
 fn put_elements<'t, 'a>(
     before: &'t [Element<'a>],
     out: &mut Vec<&'t Tree<'a>>,

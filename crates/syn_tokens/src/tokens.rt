@@ -1,10 +1,10 @@
 //! Tokens that are to be written, as a stream of trees.
 
-ghost use Rattle.gram_piece.specs.Pieces.{piece_token};
-ghost use Rattle.gram_piece.specs.declared.piece.Piece.{Piece as GivenPiece};
-ghost use Rattle.gram_piece.specs.declared.piece.Piece.TheVariants as a_piece;
-ghost use Rattle.gram_way.specs.Said.{said};
-ghost use Rattle.gram_write.specs.Formed.{IsFormed};
+ghost use Rattle.writer_print.specs.Pieces.{piece_token};
+ghost use Rattle.writer_print.specs.declared.piece.Piece.{Piece as GivenPiece};
+ghost use Rattle.writer_print.specs.declared.piece.Piece.TheVariants as a_piece;
+ghost use Rattle.writer_rules.specs.Said.{said};
+ghost use Rattle.writer_read.specs.Formed.{IsFormed};
 ghost use Rattle.proc_macro2.specs.Entered.{entered};
 ghost use Rattle.proc_macro2.specs.Flat.{spanned};
 ghost use Rattle.proc_macro2.specs.Token.{Closes, Opens, Token, plain};
@@ -16,11 +16,9 @@ ghost use Rattle.syn_tokens.specs.Nests.{are_trees, is_leaf, opened, stand};
 ghost use Rattle.syn_tokens.specs.Places.{nest_tokens, placed, placed_piece, spans};
 ghost use Rattle.syn_grammar.specs.Kind.{Position};
 
-use gram_piece::piece::Piece;
-use gram_tree::tree::Tree;
-use gram_write::write::write;
 use proc_macro2::delimiter::Delimiter;
 use proc_macro2::tree::{Group, TokenStream, TokenTree};
+use reader_tree::tree::Tree;
 use rust_leaf::ident::Ident;
 use rust_leaf::literal::Literal;
 use rust_leaf::minus::behind_minus;
@@ -29,6 +27,8 @@ use rust_map::span::Span;
 use std::alloc::{AllocError, Global};
 use std::mem;
 use try_clone::TryClone;
+use writer_print::piece::Piece;
+use writer_read::write::write;
 
 // A group that is open: its delimiter, where the group stands, and what stands before it in its list.
 #[derive(Drop)]

@@ -1,6 +1,6 @@
 -- Members of traits, impls and extern blocks that are read by themselves.
 use Rattle.std.specs.Prelude.{◌≡◌}
-use Rattle.gram_table.specs.Kinds.{place_of}
+use Rattle.reader_table.specs.Kinds.{place_of}
 use Rattle.syn_grammar.specs.Kind as k
 use Rattle.syn_grammar.specs.Tree as t
 use Rattle.syn_grammar.specs.Tree.{Tree}

@@ -3,7 +3,7 @@
 //! `view` names both answers of the type's `of`, as the prover meets the trait's clause case by case; and `kind` states
 //! its clause again, as the prover gives a method without arguments none of the trait's where the type has a lifetime.
 
-ghost use Rattle.gram_table.specs.Kinds.{kind_of};
+ghost use Rattle.reader_table.specs.Kinds.{kind_of};
 ghost use Rattle.std.specs.Prelude.{◌≡◌, MatchOption, Some};
 ghost use Rattle.syn_ast.specs.Attributes.{inner_attributes, meta, outer_attributes};
 ghost use Rattle.syn_ast.specs.Generics.{generics, where_clause};
@@ -24,8 +24,8 @@ ghost use Rattle.syn_part.specs.Shape.{IsShaped};
 ghost use Rattle.syn_typed.specs.Alone.{IsStmtAlone};
 
 use crate::typed::Parse;
-use gram_table::kind::{Kind, Plus, Position, Style};
-use gram_tree::tree::Tree;
+use reader_table::kind::{Kind, Plus, Position, Style};
+use reader_tree::tree::Tree;
 use syn_ast::attributes::{InnerAttributes, Meta, OuterAttributes};
 use syn_ast::generics::{Generics, WhereClause};
 use syn_ast::paths::Path;

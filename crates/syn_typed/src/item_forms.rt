@@ -1,6 +1,6 @@
 //! Items, what stands in them, and fields, that are read by themselves.
 
-ghost use Rattle.gram_table.specs.Kinds.{kind_of};
+ghost use Rattle.reader_table.specs.Kinds.{kind_of};
 ghost use Rattle.std.specs.Prelude.{◌≡◌, MatchOption};
 ghost use Rattle.syn_data.specs.Data.{named_field, unnamed_field};
 ghost use Rattle.syn_grammar.specs.Gram.{ref};
@@ -15,8 +15,8 @@ ghost use Rattle.syn_part.specs.Kept.{IsKept};
 ghost use Rattle.syn_part.specs.Shape.{IsShaped};
 
 use crate::typed::Parse;
-use gram_table::kind::{Kind, Place};
-use gram_tree::tree::Tree;
+use reader_table::kind::{Kind, Place};
+use reader_tree::tree::Tree;
 use syn_data::data::{NamedField, UnnamedField};
 use syn_item::entry::{ForeignItemStatic, OneMacro, OneTrait};
 use syn_item::function::{OneParameter, Parameter, Receiver, Signature};
@@ -26,8 +26,8 @@ use syn_item::members::{AssociatedItem, ForeignItem, ImplItem, TraitItem};
 /// An item of any kind, read by itself with its attributes and its visibility.
 #[derive(Clone, Copy)]
 pub struct AnyItem<'a> {
-    /// All of it, as a form of the kind `AnItem`: if it is kept as it was read, `ItemParts::of` has its attributes and its
-    /// visibility.
+    /// All of it, as a form of the kind `AnItem`: if it is kept as it was read, `ItemParts::of` has its attributes and
+    /// its visibility.
     pub tree: &'a Tree<'a>,
     /// The item behind them, by its form.
     pub item: Item<'a, 'a>,
@@ -36,8 +36,8 @@ pub struct AnyItem<'a> {
 /// An item of an extern block, read by itself with its attributes and its visibility.
 #[derive(Clone, Copy)]
 pub struct OneForeignItem<'a> {
-    /// All of it, as a form of the kind `AForeignItem`: if it is kept as it was read, `ForeignParts::of` has its attributes
-    /// and its visibility.
+    /// All of it, as a form of the kind `AForeignItem`: if it is kept as it was read, `ForeignParts::of` has its
+    /// attributes and its visibility.
     pub tree: &'a Tree<'a>,
     /// The item behind them, by its form.
     pub item: ForeignItem<'a, 'a>,

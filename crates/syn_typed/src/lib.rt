@@ -1,8 +1,8 @@
-//! The types of the syntax tree that are read from tokens: of each the kind that it is read as, and one layer of a tree of
-//! that kind. What reads the tokens is `syn_read`. Its parts stand in `syn`, under the same names.
+//! The types of the syntax tree that are read from tokens: of each the kind that it is read as, and one layer of a
+//! tree of that kind. What reads the tokens is `syn_read`. Its parts stand in `syn`, under the same names.
 //!
-//! - `typed`: what is asked of such a type; `forms`, `type_forms`, `item_forms`, `member_forms`, `parts`: the types that
-//!   are.
+//! - `typed`: what is asked of such a type; `forms`, `type_forms`, `item_forms`, `member_forms`, `parts`: the types
+//!   that are.
 //! - `one_item`: items of one kind that are read by themselves, as `OneItem<ItemFn>`.
 #![tactic(auto)]
 

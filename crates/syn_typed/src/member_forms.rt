@@ -1,14 +1,14 @@
 //! What stands in traits, impls and extern blocks, read by itself: of each the kind that reads that form alone.
 
-ghost use Rattle.gram_table.specs.Kinds.{kind_of};
+ghost use Rattle.reader_table.specs.Kinds.{kind_of};
 ghost use Rattle.std.specs.Prelude.{◌≡◌};
 ghost use Rattle.syn_typed.specs.OneMember.{IsOneMember};
 ghost use Rattle.syn_grammar.specs.Kind as k;
 ghost use Rattle.syn_item.specs.ItemEntries.{one_macro};
 
 use crate::typed::Parse;
-use gram_table::kind::{Kind, Place};
-use gram_tree::tree::Tree;
+use reader_table::kind::{Kind, Place};
+use reader_tree::tree::Tree;
 use syn_item::entry::{OneMacro, PlacedParts};
 
 /// A function of a trait, read by itself.

@@ -1,6 +1,6 @@
 //! Items of one kind that are read by themselves, with their attributes and their visibility.
 
-ghost use Rattle.gram_table.specs.Kinds.{kind_of};
+ghost use Rattle.reader_table.specs.Kinds.{kind_of};
 ghost use Rattle.proc_macro2.specs.Token.{Token};
 ghost use Rattle.std.specs.Prelude.{◌≡◌, List, MatchOption};
 ghost use Rattle.syn_typed.specs.OneItem.{one_item};
@@ -18,8 +18,8 @@ ghost use Rattle.syn_item.specs.ItemImpls.{item_impl};
 ghost use Rattle.syn_item.specs.ItemModules.{item_foreign_mod, item_mod};
 
 use crate::typed::Parse;
-use gram_table::kind::Kind;
-use gram_tree::tree::Tree;
+use reader_table::kind::Kind;
+use reader_tree::tree::Tree;
 use syn_data::item::{ItemEnum, ItemExternCrate, ItemStatic, ItemStruct, ItemUnion, ItemUse};
 use syn_item::alias::ItemType;
 use syn_item::constant::ItemConst;
@@ -28,14 +28,13 @@ use syn_item::function::ItemFn;
 use syn_item::impls::ItemImpl;
 use syn_item::modules::{ItemForeignMod, ItemMod};
 
-/// An item of one kind, read by itself with its attributes and its visibility, as
-/// `parse2::<OneItem<ItemFn>>(&arena, &buffer)`. So are read `ItemStruct`, `ItemEnum`, `ItemUnion`, `ItemFn`, `ItemImpl`,
-/// `ItemMod`, `ItemForeignMod`, `ItemUse`, `ItemExternCrate`, `ItemConst`, `ItemStatic` and `ItemType`; a trait is read as
-/// `OneTrait`.
+/// An item of one kind, read by itself with its attributes and its visibility, as `parse2::<OneItem<ItemFn>>(&arena,
+/// &buffer)`. So are read `ItemStruct`, `ItemEnum`, `ItemUnion`, `ItemFn`, `ItemImpl`, `ItemMod`, `ItemForeignMod`,
+/// `ItemUse`, `ItemExternCrate`, `ItemConst`, `ItemStatic` and `ItemType`; a trait is read as `OneTrait`.
 ///
 /// Where an item of any kind may stand, `AnyItem` is read, and where one of this kind does, with the same attributes,
-/// visibility and form (`laws::item_readers`). An item of which that keeps the tokens alone, as a function without a body,
-/// is refused here.
+/// visibility and form (`laws::item_readers`). An item of which that keeps the tokens alone, as a function without a
+/// body, is refused here.
 #[derive(Clone, Copy)]
 pub struct OneItem<'a, T> {
     /// Its attributes, as a form of the kind `OuterAttributes`: `OuterAttributes::of` has each.
@@ -46,8 +45,8 @@ pub struct OneItem<'a, T> {
     pub item: T,
 }
 
-// An item that is kept as it was read, as its parts. What was read as an item of one kind by itself is one, of that kind,
-// and what stands behind its attributes and its visibility was read as a form of the kind that is asked there.
+// An item that is kept as it was read, as its parts. What was read as an item of one kind by itself is one, of that
+// kind, and what stands behind its attributes and its visibility was read as a form of the kind that is asked there.
 fn parts_of<'a>(tree: &'a Tree<'a>) -> Option<ItemParts<'a, 'a>>
     ensures { MatchOption result
         ((i j : k.Kind) (rest : List Token) → table i ≡ only j → Derives tree.now (ref i) rest → ⊥)

@@ -1,6 +1,6 @@
 //! Parts of paths, of generics, of data and of expressions that are read by themselves.
 
-ghost use Rattle.gram_table.specs.Kinds.{kind_of};
+ghost use Rattle.reader_table.specs.Kinds.{kind_of};
 ghost use Rattle.std.specs.Prelude.{◌≡◌};
 ghost use Rattle.syn_ast.specs.Generics.{const_param, generic_param, lifetime_param, type_param, where_predicate};
 ghost use Rattle.syn_ast.specs.Paths.{angle_bracketed_generic_arguments, generic_argument, index, macro, member};
@@ -12,8 +12,8 @@ ghost use Rattle.syn_expr.specs.ExprParts.{arm, field_value};
 ghost use Rattle.syn_grammar.specs.Kind as k;
 
 use crate::typed::Parse;
-use gram_table::kind::{Kind, Style};
-use gram_tree::tree::Tree;
+use reader_table::kind::{Kind, Style};
+use reader_tree::tree::Tree;
 use syn_ast::bounds::{TraitBound, TypeParamBound};
 use syn_ast::generics::{ConstParam, GenericParam, LifetimeParam, TypeParam, WherePredicate};
 use syn_ast::paths::{

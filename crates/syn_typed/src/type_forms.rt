@@ -1,6 +1,6 @@
 //! Forms of types, and what stands in them, that are read by themselves.
 
-ghost use Rattle.gram_table.specs.Kinds.{kind_of};
+ghost use Rattle.reader_table.specs.Kinds.{kind_of};
 ghost use Rattle.std.specs.Prelude.{◌≡◌};
 ghost use Rattle.syn_ast.specs.Types.{abi, bound_lifetimes, fn_ptr_arg, return_type, type_fn_ptr, type_impl_trait};
 ghost use Rattle.syn_ast.specs.Types.{type_bracketed, type_infer, type_never, type_parenthesized, type_path, type_ptr};
@@ -8,8 +8,8 @@ ghost use Rattle.syn_ast.specs.Types.{type_reference, type_trait_object};
 ghost use Rattle.syn_grammar.specs.Kind as k;
 
 use crate::typed::Parse;
-use gram_table::kind::{Kind, Plus, Style};
-use gram_tree::tree::Tree;
+use reader_table::kind::{Kind, Plus, Style};
+use reader_tree::tree::Tree;
 use syn_ast::types::{
     Abi, BoundLifetimes, FnPtrArg, ReturnType, TypeBracketed, TypeFnPtr, TypeImplTrait, TypeInfer,
     TypeNever, TypeParenthesized, TypePath, TypePtr, TypeReference, TypeTraitObject,

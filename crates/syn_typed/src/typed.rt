@@ -1,6 +1,6 @@
 //! What is asked of a type that is read from tokens.
 
-ghost use Rattle.gram_table.specs.Kinds.{kind_of};
+ghost use Rattle.reader_table.specs.Kinds.{kind_of};
 ghost use Rattle.proc_macro2.specs.Token.{Token};
 ghost use Rattle.std.specs.Prelude.{◌≡◌, List, MatchOption};
 ghost use Rattle.syn_grammar.specs.Derives.{Derives};
@@ -8,8 +8,8 @@ ghost use Rattle.syn_grammar.specs.Gram.{ref};
 ghost use Rattle.syn_grammar.specs.Kind.{Kind as GivenKind};
 ghost use Rattle.syn_grammar.specs.Tree.{Tree as GivenTree};
 
-use gram_table::kind::Kind;
-use gram_tree::tree::Tree;
+use reader_table::kind::Kind;
+use reader_tree::tree::Tree;
 
 /// A type of the syntax tree that is read from tokens.
 pub trait Parse<'a> {

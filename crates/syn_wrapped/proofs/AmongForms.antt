@@ -1,5 +1,5 @@
 -- Items among others: that each form is chosen where the grammar reads it, and is found there.
-use Rattle.gram_tree.specs.Forms.{seconds}
+use Rattle.reader_tree.specs.Forms.{seconds}
 use Rattle.std.proofs.Common.{◌∙◌, ap, inl, inr, subst, sym}
 use Rattle.std.specs.Prelude.{◌≡◌, ◌⊎◌, Bool, cond, false, refl, true, ℕ, suc, zero}
 use Rattle.syn_part.proofs.Absent.{shaped_never}

@@ -1,10 +1,10 @@
 -- Whether an item is a macro, by its form; and what a statement is once it is a tree.
-use Rattle.gram_table.specs.Kinds.{kind_of}
-use Rattle.gram_table.specs.declared.kind.Kind as g
-use Rattle.gram_table.specs.declared.kind.Kind.TheVariants as kinds
-use Rattle.gram_table.specs.declared.kind.Place.{Place}
-use Rattle.gram_tree.specs.Shapes.{node_of}
-use Rattle.gram_tree.specs.Forms.{seconds}
+use Rattle.reader_table.specs.Kinds.{kind_of}
+use Rattle.reader_table.specs.declared.kind.Kind as g
+use Rattle.reader_table.specs.declared.kind.Kind.TheVariants as kinds
+use Rattle.reader_table.specs.declared.kind.Place.{Place}
+use Rattle.reader_tree.specs.Shapes.{node_of}
+use Rattle.reader_tree.specs.Forms.{seconds}
 use Rattle.std.proofs.Common.{ap, ◌∙◌, inl, inr, subst, sym}
 use Rattle.std.specs.Prelude.{◌≡◌, ◌⊎◌, Bool, cond, Option, None, Some, false, refl, true}
 use Rattle.syn_part.specs.declared.leaf.Mark.{Mark}

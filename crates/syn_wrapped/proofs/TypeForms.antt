@@ -1,5 +1,5 @@
 -- Types of their forms have that form, and the shape of their entry where the form has it.
-use Rattle.gram_tree.specs.Forms.{seconds}
+use Rattle.reader_tree.specs.Forms.{seconds}
 use Rattle.std.specs.Prelude.{◌≡◌, refl}
 use Rattle.std.proofs.Common.{◌∙◌, ap, subst, sym}
 use Rattle.syn_part.specs.Shape.{IsShaped}

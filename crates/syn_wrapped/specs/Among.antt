@@ -1,5 +1,5 @@
 -- Items among others, of their attributes, their visibility and their form.
-use Rattle.gram_tree.specs.Forms.{seconds}
+use Rattle.reader_tree.specs.Forms.{seconds}
 use Rattle.std.specs.Prelude.{◌≡◌, ◌⊎◌, Bool, cond, false, ℕ}
 use Rattle.syn_data.specs.Derive.{item_inside}
 use Rattle.syn_data.specs.declared.derive.Data.{Data}

@@ -1,7 +1,7 @@
 -- What stands in the trees of patterns of their forms: each form behind the alternatives before its own.
 use Rattle.std.specs.Prelude.{Option, Some, None}
 use Rattle.proc_macro2.specs.declared.delimiter.Delimiter.TheVariants.{Parenthesis}
-use Rattle.gram_tree.specs.Forms.{seconds}
+use Rattle.reader_tree.specs.Forms.{seconds}
 use Rattle.syn_part.specs.Leaves.{turns_tree}
 use Rattle.syn_pat.specs.Pat.{alternatives, alternatives_tree, pat_tree, range_form}
 use Rattle.syn_pat.specs.Patterns.{pat_ident, pat_or, pat_reference, pat_rest, pat_slice, pat_wild}

@@ -1,5 +1,5 @@
 -- What stands in the tree of a statement: the form behind the alternatives before its own.
-use Rattle.gram_tree.specs.Forms.{seconds}
+use Rattle.reader_tree.specs.Forms.{seconds}
 use Rattle.std.specs.Prelude.{◌≡◌, Bool, false, None, Option, Some, cond, not}
 use Rattle.syn_part.specs.declared.leaf.Mark.{Mark}
 use Rattle.syn_expr.specs.Statements.{called_macro, expression_tree, stmt_expr, stmt_local, stmt_macro}
@@ -45,8 +45,8 @@ chosen_stmt (stmts.Macro x) = chosen_macro x
 chosen_stmt (stmts.Local x) = seconds 2 (t.First (stmt_local x))
 chosen_stmt (stmts.Expr x) = seconds 4 (stmt_expr x)
 
--- What a statement is once it is a tree: the same; but an expression in which a macro is called is that macro, as it is when
--- it is read.
+-- What a statement is once it is a tree: the same; but an expression in which a macro is called is that macro, as it
+-- is when it is read.
 abbrev pub IsToldAs : Stmt → Stmt → Type 0
 IsToldAs (stmts.Expr x) (stmts.Macro y) =
     (y.attrs.now ≡ x.attrs.now) × (called_macro x.expr.now x.semi_token ≡ Some y.mac.now) × (y.semi_token ≡ x.semi_token)

@@ -1,7 +1,7 @@
 -- What stands in the tree of a type of its form: the form behind the alternatives before its own.
-use Rattle.gram_table.specs.declared.kind.Plus.{Plus}
-use Rattle.gram_table.specs.declared.kind.Style.TheVariants as styles
-use Rattle.gram_tree.specs.Forms.{seconds}
+use Rattle.reader_table.specs.declared.kind.Plus.{Plus}
+use Rattle.reader_table.specs.declared.kind.Style.TheVariants as styles
+use Rattle.reader_tree.specs.Forms.{seconds}
 use Rattle.std.specs.Prelude.{◌≡◌, ℕ}
 use Rattle.syn_ast.specs.Types.{type_path, type_tree}
 use Rattle.syn_ast.specs.declared.types.«Type».{«Type» as Type'}
@@ -46,8 +46,8 @@ type_kind p (types.ImplTrait x) = k.ImplType p
 type_kind p (types.FnPtr x) = k.FnPtrType
 type_kind p (types.Path x) = k.AnyPath k.AtType
 
--- where a type stands, a + may stand between its bounds or may not: those of dyn and impl are as the place has them, and
--- a path is one of types
+-- where a type stands, a + may stand between its bounds or may not: those of dyn and impl are as the place has them,
+-- and a path is one of types
 abbrev pub IsTypeAt : Plus → Type' → Type 0
 IsTypeAt p (types.TraitObject x) = AreBounds p x.bounds
 IsTypeAt p (types.ImplTrait x) = AreBounds p x.bounds

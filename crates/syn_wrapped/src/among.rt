@@ -1,8 +1,8 @@
 //! Items among others, by their form: in a file or a module, in a trait, an impl or an extern block.
 
-ghost use Rattle.gram_table.specs.Kinds.{kind_of, place_of};
-ghost use Rattle.gram_table.specs.Parts.{part_of};
-ghost use Rattle.gram_tree.specs.Forms.{turns as in_turn};
+ghost use Rattle.reader_table.specs.Kinds.{kind_of, place_of};
+ghost use Rattle.reader_table.specs.Parts.{part_of};
+ghost use Rattle.reader_tree.specs.Forms.{turns as in_turn};
 ghost use Rattle.std.specs.Prelude.{◌≡◌, ◌↔◌, IfOk, IfSome, IsTrue, MatchOption, cond};
 ghost use Rattle.syn_data.specs.Derive.{attributes_of, visibility_of};
 ghost use Rattle.syn_grammar.specs.Gram as g;
@@ -17,13 +17,13 @@ ghost use Rattle.syn_wrapped.specs.Among.{IsKeptIn, IsOfForm, MayStand, among_it
 ghost use Rattle.syn_wrapped.specs.Among.{item_parts, kept_item};
 ghost use Rattle.syn_wrapped.specs.Members.{IsForeign, IsMember, foreign_inside, member_inside, member_parts};
 
-use gram_judge::items::item_verdict;
-use gram_judge::verdict::Verdict;
-use gram_table::kind::{Kind, Place};
-use gram_table::part::Part;
-use gram_tree::arena::Arena;
-use gram_tree::made;
-use gram_tree::tree::Tree;
+use reader_table::kind::{Kind, Place};
+use reader_table::part::Part;
+use reader_tree::arena::Arena;
+use reader_tree::made;
+use reader_tree::tree::Tree;
+use reader_verdicts::items::item_verdict;
+use reader_verdicts::verdict::Verdict;
 use rust_leaf::ident::Ident;
 use std::alloc::AllocError;
 use syn_item::item::{Item, ItemForm};
@@ -168,9 +168,9 @@ fn kept_in_file<'a>(
     }
 }
 
-/// An item among others, as a node of the kind `AnItem`, if its tree has the form that it says; `None`, exactly where the
-/// grammar does not keep such an item behind such a visibility, as an impl behind `pub`. One that is kept as its tokens has
-/// its own attributes and its own visibility among them: of it these two are not asked.
+/// An item among others, as a node of the kind `AnItem`, if its tree has the form that it says; `None`, exactly where
+/// the grammar does not keep such an item behind such a visibility, as an impl behind `pub`. One that is kept as its
+/// tokens has its own attributes and its own visibility among them: of it these two are not asked.
 ///
 /// # Errors
 ///
@@ -202,9 +202,9 @@ pub fn item<'a>(
     }
 }
 
-/// An item without attributes and without a visibility, as a node of the kind `AnItem`, if its tree has the form that it
-/// says: what a derive helper makes, say; `None`, exactly where the grammar does not keep such an item. One that is kept as
-/// its tokens has its own among them.
+/// An item without attributes and without a visibility, as a node of the kind `AnItem`, if its tree has the form that
+/// it says: what a derive helper makes, say; `None`, exactly where the grammar does not keep such an item. One that is
+/// kept as its tokens has its own among them.
 ///
 /// # Errors
 ///
@@ -244,8 +244,8 @@ fn member_parts<'a>(
     (attrs, vis, default, Called(Part::Item, *item)).to_tree(arena)
 }
 
-// An item of a trait or an impl, as a node of the kind: all of it, if the grammar keeps it there, or that its tokens are
-// kept.
+// An item of a trait or an impl, as a node of the kind: all of it, if the grammar keeps it there, or that its tokens
+// are kept.
 #[tactic(auto, using(crate::proofs::MemberForms::members))]
 fn member<'a>(
     arena: &'a Arena,
@@ -271,9 +271,9 @@ fn member<'a>(
     }
 }
 
-/// An item of a trait, as a node of the kind `ATraitItem`, with its attributes, its visibility and `default`; `None`, exactly
-/// where the grammar does not keep such an item there: none behind `pub` or `default`. One that is kept as its tokens has
-/// its own among them: of it these three are not asked.
+/// An item of a trait, as a node of the kind `ATraitItem`, with its attributes, its visibility and `default`; `None`,
+/// exactly where the grammar does not keep such an item there: none behind `pub` or `default`. One that is kept as its
+/// tokens has its own among them: of it these three are not asked.
 ///
 /// # Errors
 ///
@@ -299,8 +299,8 @@ pub fn trait_item<'a>(
 }
 
 /// An item of an impl, as a node of the kind `AnImplItem`, with its attributes, its visibility and `default`; `None`,
-/// exactly where the grammar does not keep such an item there, as a macro behind one of these two. One that is kept as its
-/// tokens has its own among them: of it these three are not asked.
+/// exactly where the grammar does not keep such an item there, as a macro behind one of these two. One that is kept as
+/// its tokens has its own among them: of it these three are not asked.
 ///
 /// # Errors
 ///
@@ -325,9 +325,9 @@ pub fn impl_item<'a>(
     }
 }
 
-/// An item of an extern block, as a node of the kind `AForeignItem`, with its attributes and its visibility; `None`, exactly
-/// where the grammar does not keep such an item there, as a macro behind `pub`. One that is kept as its tokens has its own
-/// among them: of it these two are not asked.
+/// An item of an extern block, as a node of the kind `AForeignItem`, with its attributes and its visibility; `None`,
+/// exactly where the grammar does not keep such an item there, as a macro behind `pub`. One that is kept as its tokens
+/// has its own among them: of it these two are not asked.
 ///
 /// # Errors
 ///

@@ -5,8 +5,8 @@ ghost use Rattle.syn_data.specs.Derive.{IsEnded, IsItemOf, data_form};
 ghost use Rattle.syn_wrapped.specs.Among.{data_item_form, kept_item};
 
 use crate::among::kept;
-use gram_tree::arena::Arena;
-use gram_tree::tree::Tree;
+use reader_tree::arena::Arena;
+use reader_tree::tree::Tree;
 use std::alloc::AllocError;
 use syn_data::derive::{Data, DeriveInput};
 use syn_item::item::{Item, ItemForm};
@@ -23,8 +23,8 @@ fn item_form(which: &Data<'_, '_>) -> ItemForm
     }
 }
 
-/// What is derived for as an item among others, as a node of the kind `AnItem`; `None`, exactly where the semicolon of a
-/// struct is not as its fields need it.
+/// What is derived for as an item among others, as a node of the kind `AnItem`; `None`, exactly where the semicolon of
+/// a struct is not as its fields need it.
 ///
 /// # Errors
 ///

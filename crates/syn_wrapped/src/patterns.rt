@@ -10,11 +10,11 @@ ghost use Rattle.syn_wrapped.specs.Patterns.{in_parens, one_form_of, one_inside,
 ghost use Rattle.syn_wrapped.specs.Patterns.{pattern_form_of, pattern_tree, range_inside_one, several_form_of};
 ghost use Rattle.syn_wrapped.specs.Patterns.{several_tree};
 
-use gram_table::kind::Kind;
-use gram_tree::arena::Arena;
-use gram_tree::made;
-use gram_tree::tree::Tree;
 use proc_macro2::delimiter::Delimiter;
+use reader_table::kind::Kind;
+use reader_tree::arena::Arena;
+use reader_tree::made;
+use reader_tree::tree::Tree;
 use rust_map::span::Span;
 use std::alloc::AllocError;
 use syn_made::forms::{First, Grouped, Second, Seconds};
@@ -89,8 +89,8 @@ fn one_inside<'a>(arena: &'a Arena, form: &Pat<'_, 'a>) -> Result<Option<Tree<'a
     }
 }
 
-/// A pattern of its form, as a tree of the kind `OnePattern`, for where one alternative stands; `None`, exactly where it
-/// is no tree. Alternatives get parentheses.
+/// A pattern of its form, as a tree of the kind `OnePattern`, for where one alternative stands; `None`, exactly where
+/// it is no tree. Alternatives get parentheses.
 ///
 /// # Errors
 ///
@@ -111,8 +111,8 @@ pub fn one_pattern<'a>(arena: &'a Arena, form: &Pat<'_, 'a>) -> Result<Option<Tr
     Ok(Some(made::node(arena, Kind::OnePattern, inside)?))
 }
 
-/// A pattern of its form, as a tree of the kind `Pattern`, for where alternatives may stand, perhaps behind a `|`; `None`,
-/// exactly where it is no tree.
+/// A pattern of its form, as a tree of the kind `Pattern`, for where alternatives may stand, perhaps behind a `|`;
+/// `None`, exactly where it is no tree.
 ///
 /// # Errors
 ///
@@ -137,8 +137,8 @@ pub fn pattern<'a>(arena: &'a Arena, form: &Pat<'_, 'a>) -> Result<Option<Tree<'
     Ok(Some(node(arena, Kind::Pattern, &inside)?))
 }
 
-/// A pattern of its form, as a tree of the kind `SeveralPatterns`, for where alternatives may stand, but no `|` in front
-/// of them, which is left out; `None`, exactly where it is no tree.
+/// A pattern of its form, as a tree of the kind `SeveralPatterns`, for where alternatives may stand, but no `|` in
+/// front of them, which is left out; `None`, exactly where it is no tree.
 ///
 /// # Errors
 ///

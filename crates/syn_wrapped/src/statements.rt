@@ -1,6 +1,6 @@
 //! Statements, and blocks of them.
 
-ghost use Rattle.gram_tree.specs.Forms.{turns};
+ghost use Rattle.reader_tree.specs.Forms.{turns};
 ghost use Rattle.std.specs.Prelude.{◌≡◌, IfOk, map};
 ghost use Rattle.syn_expr.specs.Statements.{IsStmt, block_stmt};
 ghost use Rattle.syn_expr.specs.declared.stmt.Stmt.{Stmt as GivenStmt};
@@ -9,12 +9,12 @@ ghost use Rattle.syn_grammar.specs.Tree as t;
 ghost use Rattle.syn_wrapped.specs.Statements.{IsToldAs, as_expression, chosen_macro, chosen_stmt, is_call};
 ghost use Rattle.syn_wrapped.specs.Statements.{is_macro_form, is_macro_item};
 
-use gram_judge::closing::ends_in_braces;
-use gram_table::kind::{Kind, Position};
-use gram_table::part::Part;
-use gram_tree::arena::Arena;
-use gram_tree::made;
-use gram_tree::tree::Tree;
+use reader_table::kind::{Kind, Position};
+use reader_table::part::Part;
+use reader_tree::arena::Arena;
+use reader_tree::made;
+use reader_tree::tree::Tree;
+use reader_verdicts::closing::ends_in_braces;
 use std::alloc::AllocError;
 use syn_expr::blocks::ExprMacro;
 use syn_expr::stmt::{BlockStmt, Stmt, StmtExpr, StmtMacro};
@@ -103,8 +103,8 @@ fn alternative<'a>(arena: &'a Arena, stmt: &Stmt<'_, 'a>) -> Result<Tree<'a>, Al
     }
 }
 
-/// A statement as a form of the kind `AStatement`. `Stmt::of` answers the same statement of it; of a `Stmt::Expr` that is a
-/// macro and nothing else, with a `;` behind it, it answers the `Stmt::Macro`, as it does where that is read.
+/// A statement as a form of the kind `AStatement`. `Stmt::of` answers the same statement of it; of a `Stmt::Expr` that
+/// is a macro and nothing else, with a `;` behind it, it answers the `Stmt::Macro`, as it does where that is read.
 ///
 /// # Errors
 ///

@@ -1,7 +1,7 @@
 //! Types of their forms, for where one stands.
 
-ghost use Rattle.gram_table.specs.Kinds.{plus_of};
-ghost use Rattle.gram_tree.specs.Forms.{seconds};
+ghost use Rattle.reader_table.specs.Kinds.{plus_of};
+ghost use Rattle.reader_tree.specs.Forms.{seconds};
 ghost use Rattle.std.specs.Prelude.{◌≡◌, ◌↔◌, IfOk, IfSome, IsTrue, MatchOption};
 ghost use Rattle.syn_ast.specs.Paths.{path};
 ghost use Rattle.syn_ast.specs.Types.{form_of_type, type_tree};
@@ -12,10 +12,10 @@ ghost use Rattle.syn_made.specs.MadeAst.{IsWholeType};
 ghost use Rattle.syn_part.specs.Shape.{IsShaped};
 ghost use Rattle.syn_wrapped.specs.Types.{IsTypeAt, before_type, type_inside, type_kind};
 
-use gram_table::kind::{Kind, Plus, Style};
-use gram_tree::arena::Arena;
-use gram_tree::made;
-use gram_tree::tree::Tree;
+use reader_table::kind::{Kind, Plus, Style};
+use reader_tree::arena::Arena;
+use reader_tree::made;
+use reader_tree::tree::Tree;
 use std::alloc::AllocError;
 use syn_ast::paths::Path;
 use syn_ast::types::Type;
@@ -82,9 +82,9 @@ fn is_type_at(plus: Plus, form: &Type<'_, '_>) -> bool
     }
 }
 
-/// A type of its form, as a tree of the kind `AType`, for where a type stands; `None`, exactly where it is no tree there: a
-/// tuple of one element without a comma, `dyn` or `impl` with several bounds where one may stand, or the other way, or a
-/// path that is not one of types.
+/// A type of its form, as a tree of the kind `AType`, for where a type stands; `None`, exactly where it is no tree
+/// there: a tuple of one element without a comma, `dyn` or `impl` with several bounds where one may stand, or the
+/// other way, or a path that is not one of types.
 ///
 /// # Errors
 ///

@@ -7,8 +7,8 @@ ghost use Rattle.syn_expr.specs.ExprForms.{IsAlone};
 ghost use Rattle.syn_grammar.specs.Kind as k;
 
 use crate::expr::forms;
-use gram_table::kind::Kind;
-use gram_tree::tree::Tree;
+use reader_table::kind::Kind;
+use reader_tree::tree::Tree;
 use rust_leaf::ident::Ident;
 use syn_part::leaf::{Delimiters, Lifetime};
 use syn_part::sub::{Lit, as_lit};

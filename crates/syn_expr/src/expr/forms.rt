@@ -1,6 +1,6 @@
 //! What a form of an expression is made of. Each answers nothing only where a tree is no such form.
 
-ghost use Rattle.gram_table.specs.Kinds.{kind_of};
+ghost use Rattle.reader_table.specs.Kinds.{kind_of};
 ghost use Rattle.std.specs.Prelude.{◌<◌, ◌≡◌, IfSome, List, MatchOption, cond, length, ℕ};
 ghost use Rattle.syn_expr.specs.ExprForms.{IsAlone, IsBack, IsForm, IsFront, IsInfix, IsJump, form_tree, jump_tree};
 ghost use Rattle.syn_expr.specs.ExprForms.{nth_tree};
@@ -11,8 +11,8 @@ ghost use Rattle.syn_grammar.specs.Tree.{Tree as GivenTree};
 ghost use Rattle.syn_part.specs.Leaves.{mark_tree};
 ghost use Rattle.syn_part.specs.Shape.{IsShaped};
 
-use gram_table::kind::Kind;
-use gram_tree::tree::{Form, Tree};
+use reader_table::kind::Kind;
+use reader_tree::tree::{Form, Tree};
 use syn_part::leaf::Mark;
 use syn_part::take;
 

@@ -5,8 +5,8 @@ ghost use Rattle.syn_expr.specs.ExprInfix.{IsAssign, IsBinary, expr_assign, expr
 
 use crate::expr::forms;
 use crate::expr::ops::{BinOp, bin_op};
-use gram_table::kind::Kind;
-use gram_tree::tree::Tree;
+use reader_table::kind::Kind;
+use reader_tree::tree::Tree;
 use syn_part::leaf::Mark;
 use syn_part::take;
 

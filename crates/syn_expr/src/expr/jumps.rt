@@ -12,9 +12,9 @@ ghost use Rattle.syn_part.specs.Shape.{IsShaped};
 
 use crate::expr::forms;
 use crate::expr::ops::range_limits;
-use gram_table::kind::Kind;
-use gram_table::part::Part;
-use gram_tree::tree::Tree;
+use reader_table::kind::Kind;
+use reader_table::part::Part;
+use reader_tree::tree::Tree;
 use rust_leaf::ident::Ident;
 use syn_part::leaf::Lifetime;
 use syn_part::missing::nothing;

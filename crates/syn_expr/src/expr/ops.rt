@@ -1,6 +1,6 @@
 //! Operators.
 
-ghost use Rattle.gram_table.specs.Kinds.{kind_of};
+ghost use Rattle.reader_table.specs.Kinds.{kind_of};
 ghost use Rattle.std.specs.Prelude.{MatchOption, ◌≡◌};
 ghost use Rattle.syn_expr.specs.ExprOps.{IsLimits, IsOperator, Operates, limits_kind, limits_tree, un_op_tree};
 ghost use Rattle.syn_grammar.specs.Expressions.{expr_assign, expr_compare, expr_product, expr_shift, expr_sum};
@@ -11,8 +11,8 @@ ghost use Rattle.syn_grammar.specs.Tree.{Tree as GivenTree};
 ghost use Rattle.syn_part.specs.Shape.{IsShaped};
 
 use crate::expr::forms;
-use gram_table::kind::Kind;
-use gram_tree::tree::Tree;
+use reader_table::kind::Kind;
+use reader_tree::tree::Tree;
 use syn_part::leaf::Mark;
 use syn_part::take;
 use syn_pat::patterns::RangeLimits;

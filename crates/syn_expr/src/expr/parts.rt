@@ -13,9 +13,9 @@ ghost use Rattle.syn_part.specs.Kept.{IsKept};
 ghost use Rattle.syn_part.specs.Shape.{IsShaped, may_choose};
 
 use crate::part;
-use gram_table::kind::Kind;
-use gram_table::part::Part;
-use gram_tree::tree::Tree;
+use reader_table::kind::Kind;
+use reader_table::part::Part;
+use reader_tree::tree::Tree;
 use syn_ast::paths::{Index, Member};
 use syn_part::leaf::{Delimiters, Mark};
 use syn_part::list::Elements;

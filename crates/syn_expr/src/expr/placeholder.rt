@@ -10,10 +10,10 @@ ghost use Rattle.syn_grammar.specs.Kind as k;
 ghost use Rattle.syn_grammar.specs.Tree.{flat};
 
 use crate::expr::whole::Expr;
-use gram_table::kind::{Kind, Style};
-use gram_tree::arena::Arena;
-use gram_tree::made;
-use gram_tree::tree::Tree;
+use reader_table::kind::{Kind, Style};
+use reader_tree::arena::Arena;
+use reader_tree::made;
+use reader_tree::tree::Tree;
 use std::alloc::AllocError;
 
 impl<'t, 'a> Expr<'t, 'a> {

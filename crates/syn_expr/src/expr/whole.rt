@@ -1,6 +1,6 @@
 //! Expressions, by their form.
 
-ghost use Rattle.gram_table.specs.Kinds.{kind_of};
+ghost use Rattle.reader_table.specs.Kinds.{kind_of};
 ghost use Rattle.std.specs.Prelude.{MatchOption, None, Some, ◌≡◌};
 ghost use Rattle.syn_expr.specs.ExprWhole.{IsOf, alone_form, atom_form, back_form, block_form, expr_paren};
 ghost use Rattle.syn_expr.specs.ExprWhole.{expr_tuple, is_final};
@@ -9,8 +9,8 @@ ghost use Rattle.syn_expr.specs.declared.expr.whole.ExprForm.TheVariants as expr
 ghost use Rattle.syn_grammar.specs.Forms.{form_of};
 
 use crate::blocks::ExprParenthesized;
-use gram_table::kind::Kind;
-use gram_tree::tree::{Form, Tree};
+use reader_table::kind::Kind;
+use reader_tree::tree::{Form, Tree};
 use syn_part::leaf::Delimiters;
 use syn_part::list::Elements;
 use syn_part::take;

@@ -9,10 +9,10 @@ ghost use Rattle.syn_ast.specs.Generics.{where_predicate};
 use crate::forms::{Called, First, Second};
 use crate::put::{behind, node, nth};
 use crate::to_tree::ToTree;
-use gram_table::kind::Kind;
-use gram_table::part::Part;
-use gram_tree::arena::Arena;
-use gram_tree::tree::Tree;
+use reader_table::kind::Kind;
+use reader_table::part::Part;
+use reader_tree::arena::Arena;
+use reader_tree::tree::Tree;
 use std::alloc::AllocError;
 use syn_ast::generics::{
     AngledParams, Bounds, BoundsColon, ConstDefault, ConstParam, ConstValue, GenericParam,

@@ -14,10 +14,10 @@ use crate::forms::{Called, First, Grouped, Node, Second, Seconds};
 use crate::put::{behind, node, nth, some_node};
 use crate::to_tree::ToTree;
 use crate::try_to_tree::TryToTree;
-use gram_table::kind::{Kind, Style};
-use gram_table::part::Part;
-use gram_tree::arena::Arena;
-use gram_tree::tree::Tree;
+use reader_table::kind::{Kind, Style};
+use reader_table::part::Part;
+use reader_tree::arena::Arena;
+use reader_tree::tree::Tree;
 use rust_leaf::ident::Ident;
 use std::alloc::AllocError;
 use syn_ast::paths::{
@@ -92,7 +92,8 @@ fn from_keyword<'a>(
     }
 }
 
-// A name and what stands behind it: its arguments, and perhaps `::` and further segments, if they are not in parentheses.
+// A name and what stands behind it: its arguments, and perhaps `::` and further segments, if they are not in
+// parentheses.
 fn from_name<'a>(
     arena: &'a Arena,
     word: &'a Ident,

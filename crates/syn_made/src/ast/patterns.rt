@@ -15,11 +15,11 @@ use crate::leaf::is_sign;
 use crate::put::{behind, node, nth, some_node};
 use crate::to_tree::ToTree;
 use crate::try_to_tree::TryToTree;
-use gram_table::kind::Kind;
-use gram_table::part::Part;
-use gram_table::word::Sign;
-use gram_tree::arena::Arena;
-use gram_tree::tree::Tree;
+use reader_table::kind::Kind;
+use reader_table::part::Part;
+use reader_table::word::Sign;
+use reader_tree::arena::Arena;
+use reader_tree::tree::Tree;
 use std::alloc::AllocError;
 use syn_pat::patterns::{
     FieldPat, FieldPattern, FieldPatterns, LiteralPattern, MemberPattern, PatIdent, PatOr,

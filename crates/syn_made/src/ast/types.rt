@@ -13,10 +13,10 @@ use crate::lists::Only;
 use crate::put::{behind, node, nth, some_node};
 use crate::to_tree::ToTree;
 use crate::try_to_tree::TryToTree;
-use gram_table::kind::{Kind, Plus};
-use gram_table::part::Part;
-use gram_tree::arena::Arena;
-use gram_tree::tree::Tree;
+use reader_table::kind::{Kind, Plus};
+use reader_table::part::Part;
+use reader_tree::arena::Arena;
+use reader_tree::tree::Tree;
 use std::alloc::AllocError;
 use syn_ast::types::{
     Abi, AnyPath, ArgumentName, BoundLifetimes, FnPtrArg, PointerMutability, ReturnType, Type,

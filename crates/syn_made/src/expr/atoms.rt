@@ -6,9 +6,9 @@ ghost use Rattle.syn_expr.specs.ExprAtoms.{expr_try_block};
 use crate::forms::Grouped;
 use crate::put::alone;
 use crate::to_tree::ToTree;
-use gram_table::kind::Kind;
-use gram_tree::arena::Arena;
-use gram_tree::tree::Tree;
+use reader_table::kind::Kind;
+use reader_tree::arena::Arena;
+use reader_tree::tree::Tree;
 use std::alloc::AllocError;
 use syn_expr::expr::atoms::{ExprConst, ExprContinue, ExprGroup, ExprInfer, ExprLit, ExprTryBlock};
 

@@ -9,10 +9,10 @@ use crate::forms::{Called, Grouped};
 use crate::put::{alone, node, some_node};
 use crate::to_tree::ToTree;
 use crate::try_to_tree::TryToTree;
-use gram_table::kind::Kind;
-use gram_table::part::Part;
-use gram_tree::arena::Arena;
-use gram_tree::tree::Tree;
+use reader_table::kind::Kind;
+use reader_table::part::Part;
+use reader_tree::arena::Arena;
+use reader_tree::tree::Tree;
 use std::alloc::AllocError;
 use syn_expr::blocks::{
     Arms, Block, Body, ClosureParam, ExprArray, ExprAsync, ExprBlock, ExprForLoop, ExprIf,

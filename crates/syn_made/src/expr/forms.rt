@@ -1,15 +1,15 @@
 //! Forms of expressions, of their kind, their own part and their operands.
 
-ghost use Rattle.gram_table.specs.Kinds.{kind_of};
+ghost use Rattle.reader_table.specs.Kinds.{kind_of};
 ghost use Rattle.syn_expr.specs.ExprForms.{form_tree, jump_tree, nth_tree};
 ghost use Rattle.syn_grammar.specs.Tree as t;
 
 use crate::put::{alone, back, front, nth};
 use crate::to_tree::ToTree;
-use gram_table::kind::Kind;
-use gram_tree::arena::Arena;
-use gram_tree::made;
-use gram_tree::tree::Tree;
+use reader_table::kind::Kind;
+use reader_tree::arena::Arena;
+use reader_tree::made;
+use reader_tree::tree::Tree;
 use std::alloc::AllocError;
 
 /// A form by itself.

@@ -1,5 +1,5 @@
-//! Expressions, statements and blocks as trees; modules mirror those of `syn_expr`. Of a value that no form of the grammar
-//! is, as a field with a `:` and no value, `try_to_tree` answers `None`.
+//! Expressions, statements and blocks as trees; modules mirror those of `syn_expr`. Of a value that no form of the
+//! grammar is, as a field with a `:` and no value, `try_to_tree` answers `None`.
 //!
 //! - `whole`: a form as an expression, for where one stands.
 //! - `forms`: forms of expressions, of their kind, their own part and their operands.

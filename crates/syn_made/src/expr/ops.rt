@@ -1,6 +1,6 @@
 //! Operators.
 
-ghost use Rattle.gram_table.specs.Kinds.{kind_of};
+ghost use Rattle.reader_table.specs.Kinds.{kind_of};
 ghost use Rattle.std.specs.Prelude.{◌≡◌, ◌↔◌, IsTrue};
 ghost use Rattle.syn_expr.specs.ExprOps.{bin_op_kind, bin_op_tree, limits_kind, limits_tree, un_op_tree};
 ghost use Rattle.syn_made.specs.MadeExpr.{IsBinary, IsUnary};
@@ -9,10 +9,10 @@ ghost use Rattle.syn_part.specs.Leaves.{mark_tree};
 use crate::leaf::is_sign;
 use crate::put::nth;
 use crate::to_tree::ToTree;
-use gram_table::kind::Kind;
-use gram_table::word::Sign;
-use gram_tree::arena::Arena;
-use gram_tree::tree::Tree;
+use reader_table::kind::Kind;
+use reader_table::word::Sign;
+use reader_tree::arena::Arena;
+use reader_tree::tree::Tree;
 use std::alloc::AllocError;
 use syn_expr::expr::ops::{BinOp, UnOp};
 use syn_part::leaf::Mark;

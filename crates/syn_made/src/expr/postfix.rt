@@ -6,10 +6,10 @@ ghost use Rattle.syn_expr.specs.ExprPostfix.{expr_method_call, expr_struct, expr
 use crate::forms::{Called, First, Grouped, Second};
 use crate::put::back;
 use crate::to_tree::ToTree;
-use gram_table::kind::Kind;
-use gram_table::part::Part;
-use gram_tree::arena::Arena;
-use gram_tree::tree::Tree;
+use reader_table::kind::Kind;
+use reader_table::part::Part;
+use reader_tree::arena::Arena;
+use reader_tree::tree::Tree;
 use std::alloc::AllocError;
 use syn_ast::paths::Member;
 use syn_expr::expr::postfix::{

@@ -9,9 +9,9 @@ use crate::expr::ops::is_unary;
 use crate::put::{alone, front};
 use crate::to_tree::ToTree;
 use crate::try_to_tree::TryToTree;
-use gram_table::kind::Kind;
-use gram_tree::arena::Arena;
-use gram_tree::tree::Tree;
+use reader_table::kind::Kind;
+use reader_tree::arena::Arena;
+use reader_tree::tree::Tree;
 use std::alloc::AllocError;
 use syn_expr::expr::prefix::{
     ClosureHead, ExprAttributed, ExprClosure, ExprLet, ExprRawAddr, ExprReference, ExprUnary,

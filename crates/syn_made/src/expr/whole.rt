@@ -1,6 +1,6 @@
 //! A form as an expression, and the forms in parentheses.
 
-ghost use Rattle.gram_table.specs.Kinds.{position_of};
+ghost use Rattle.reader_table.specs.Kinds.{position_of};
 ghost use Rattle.std.specs.Prelude.{◌≡◌, IfOk};
 ghost use Rattle.syn_expr.specs.ExprWhole.{expr_paren, expr_tuple};
 ghost use Rattle.syn_grammar.specs.Forms.{form_of};
@@ -13,11 +13,11 @@ use crate::forms::Grouped;
 use crate::put::alone;
 use crate::to_tree::ToTree;
 use crate::try_to_tree::TryToTree;
-use gram_table::kind::{Kind, Position};
-use gram_table::op::Separator;
-use gram_tree::arena::Arena;
-use gram_tree::made;
-use gram_tree::tree::Tree;
+use reader_table::kind::{Kind, Position};
+use reader_table::op::Separator;
+use reader_tree::arena::Arena;
+use reader_tree::made;
+use reader_tree::tree::Tree;
 use std::alloc::AllocError;
 use syn_expr::expr::whole::{Expr, ExprParen, ExprTuple};
 use syn_part::list::Elements;

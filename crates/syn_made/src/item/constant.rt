@@ -5,10 +5,10 @@ ghost use Rattle.syn_item.specs.ItemAliases.{item_const};
 use crate::forms::Called;
 use crate::put::node;
 use crate::to_tree::ToTree;
-use gram_table::kind::Kind;
-use gram_table::part::Part;
-use gram_tree::arena::Arena;
-use gram_tree::tree::Tree;
+use reader_table::kind::Kind;
+use reader_table::part::Part;
+use reader_tree::arena::Arena;
+use reader_tree::tree::Tree;
 use std::alloc::AllocError;
 use syn_item::constant::ItemConst;
 

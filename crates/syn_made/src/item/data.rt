@@ -7,10 +7,10 @@ use crate::forms::{Grouped, Second};
 use crate::put::{behind, node, nth};
 use crate::to_tree::ToTree;
 use crate::try_to_tree::TryToTree;
-use gram_table::kind::Kind;
-use gram_tree::arena::Arena;
-use gram_tree::made;
-use gram_tree::tree::Tree;
+use reader_table::kind::Kind;
+use reader_tree::arena::Arena;
+use reader_tree::made;
+use reader_tree::tree::Tree;
 use std::alloc::AllocError;
 use syn_data::data::{
     Field, Fields, FieldsNamed, FieldsUnnamed, NamedField, UnnamedField, Variant,

@@ -7,9 +7,9 @@ use crate::forms::{First, Seconds};
 use crate::put::{nth, some_node};
 use crate::to_tree::ToTree;
 use crate::try_to_tree::TryToTree;
-use gram_table::kind::Kind;
-use gram_tree::arena::Arena;
-use gram_tree::tree::Tree;
+use reader_table::kind::Kind;
+use reader_tree::arena::Arena;
+use reader_tree::tree::Tree;
 use std::alloc::AllocError;
 use syn_data::derive::{Data, DataItem, DeriveInput};
 use syn_data::item::{ItemEnum, ItemStruct, ItemUnion};
@@ -26,8 +26,8 @@ impl<'t, 'a> TryToTree<'a> for DataItem<'t, 'a> {
     }
 }
 
-/// What is derived for, behind its attributes and its visibility: the form of an item; `None`, exactly where the semicolon
-/// of a struct is not as its fields need it.
+/// What is derived for, behind its attributes and its visibility: the form of an item; `None`, exactly where the
+/// semicolon of a struct is not as its fields need it.
 ///
 /// # Errors
 ///

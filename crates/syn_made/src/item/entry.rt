@@ -1,6 +1,6 @@
 //! Items with their attributes and their visibility.
 
-ghost use Rattle.gram_table.specs.Kinds.{kind_of, place_of};
+ghost use Rattle.reader_table.specs.Kinds.{kind_of, place_of};
 ghost use Rattle.std.specs.Prelude.{◌≡◌, IfOk, MatchOption};
 ghost use Rattle.syn_grammar.specs.Kind as k;
 ghost use Rattle.syn_grammar.specs.Tree as t;
@@ -11,11 +11,11 @@ use crate::forms::{Called, First};
 use crate::item::part::MaybeCalled;
 use crate::put::{node, some_node};
 use crate::to_tree::ToTree;
-use gram_table::kind::{Kind, Place};
-use gram_table::part::Part;
-use gram_tree::arena::Arena;
-use gram_tree::made;
-use gram_tree::tree::Tree;
+use reader_table::kind::{Kind, Place};
+use reader_table::part::Part;
+use reader_tree::arena::Arena;
+use reader_tree::made;
+use reader_tree::tree::Tree;
 use rust_leaf::ident::Ident;
 use std::alloc::AllocError;
 use syn_item::entry::{

@@ -9,16 +9,16 @@ use crate::forms::{Called, First, Grouped, Second};
 use crate::put::{behind, node, nth, some_node};
 use crate::to_tree::ToTree;
 use crate::try_to_tree::TryToTree;
-use gram_equal::tree::equal;
-use gram_table::kind::{Kind, Place};
-use gram_table::part::Part;
-use gram_tree::arena::Arena;
-use gram_tree::tree::Tree;
+use reader_table::kind::{Kind, Place};
+use reader_table::part::Part;
+use reader_tree::arena::Arena;
+use reader_tree::tree::Tree;
 use std::alloc::AllocError;
 use syn_item::function::{
     FnArg, ItemFn, OneParameter, Parameter, Parameters, Receiver, ReceiverKind, Safety, Signature,
     Variadic,
 };
+use tree_equal::tree::equal;
 
 impl<'t, 'a> ToTree<'a> for Parameters<'t, 'a> {
     ghost tree = { parameters };

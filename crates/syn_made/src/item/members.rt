@@ -5,10 +5,10 @@ ghost use Rattle.syn_item.specs.ItemMembers.{associated_item, foreign_item, fore
 use crate::forms::Called;
 use crate::put::nth;
 use crate::to_tree::ToTree;
-use gram_table::part::Part;
-use gram_tree::arena::Arena;
-use gram_tree::made;
-use gram_tree::tree::Tree;
+use reader_table::part::Part;
+use reader_tree::arena::Arena;
+use reader_tree::made;
+use reader_tree::tree::Tree;
 use std::alloc::AllocError;
 use syn_item::members::{AssociatedForm, AssociatedItem, ForeignForm, ForeignItem, ForeignStatic};
 

@@ -1,6 +1,7 @@
 //! Data and items as trees: the types of `syn_data` and of `syn_item`.
 //!
-//! - `data`, `item`, `derive`: fields and variants; structs, enums, unions, statics, uses and crates; what is derived for.
+//! - `data`, `item`, `derive`: fields and variants; structs, enums, unions, statics, uses and crates; what is derived
+//!   for.
 //! - `function`: functions, with their signatures, parameters and receivers.
 //! - `uses`, `modules`, `alias`, `constant`, `traits`, `impls`, `macros`, `members`: the other items.
 //! - `entry`: items of any kind with their attributes and their visibility.

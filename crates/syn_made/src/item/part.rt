@@ -1,6 +1,6 @@
 //! A part that may be missing.
 
-ghost use Rattle.gram_table.specs.Parts.{part_of};
+ghost use Rattle.reader_table.specs.Parts.{part_of};
 ghost use Rattle.syn_grammar.specs.Tree as t;
 ghost use Rattle.syn_part.specs.Leaves.{optional_tree};
 
@@ -8,9 +8,9 @@ use crate::forms::Called;
 use crate::parts::missing;
 use crate::put::nth;
 use crate::to_tree::ToTree;
-use gram_table::part::Part;
-use gram_tree::arena::Arena;
-use gram_tree::tree::Tree;
+use reader_table::part::Part;
+use reader_tree::arena::Arena;
+use reader_tree::tree::Tree;
 use std::alloc::AllocError;
 
 /// A part by its name, or nothing.

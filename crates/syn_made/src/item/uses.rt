@@ -6,10 +6,10 @@ ghost use Rattle.syn_item.specs.ItemUses.{use_inside_tree, use_rooted, use_top, 
 use crate::forms::{First, Grouped, Node, Second};
 use crate::put::{behind, node, nth};
 use crate::to_tree::ToTree;
-use gram_table::kind::Kind;
-use gram_tree::arena::Arena;
-use gram_tree::made;
-use gram_tree::tree::Tree;
+use reader_table::kind::Kind;
+use reader_tree::arena::Arena;
+use reader_tree::made;
+use reader_tree::tree::Tree;
 use std::alloc::AllocError;
 use syn_item::uses::{UseTop, UseTree};
 

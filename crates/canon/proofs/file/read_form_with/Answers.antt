@@ -1,5 +1,5 @@
 use Rattle.std.proofs.Common.{subst, sym}
-use Rattle.gram_run.specs.Answers.{IsSyntax}
+use Rattle.reader_steps.specs.Answers.{IsSyntax}
 use Rattle.canon.proofs.file.read_form_with.Goals as goal
 
 pub returns-in-Err-Syntax-clause-refused : goal.returns-in-Err-Syntax-clause-refused

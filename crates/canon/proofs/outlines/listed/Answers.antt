@@ -2,7 +2,7 @@ use Rattle.std.proofs.Common.{◌++◌, ◌∙◌, ap, sym, subst, List}
 use Rattle.proc_macro2.specs.Token.{plain}
 use Rattle.syn_buffer.specs.Entries.{spanned_entries}
 use Rattle.syn_grammar.specs.Names.{names}
-use Rattle.gram_read.specs.declared.names.Name as read
+use Rattle.reader_rust.specs.declared.names.Name as read
 use Rattle.canon.specs.Outline.{AreThere, names_of}
 use Rattle.canon.proofs.Outlined.{names_there}
 use Rattle.canon.proofs.outlines.listed.Goals as goal

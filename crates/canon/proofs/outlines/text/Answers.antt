@@ -2,7 +2,7 @@ use Rattle.std.proofs.Common.{ap, ◌++◌, ◌∙◌}
 use Rattle.std.specs.Prelude.{ℕ, List}
 use Rattle.std.specs.Str.{chars}
 use Rattle.rust_leaf.specs.Leaf.{ident_text}
-use Rattle.gram_piece.proofs.Words.{ident_pushed, no_word}
+use Rattle.writer_print.proofs.Words.{ident_pushed, no_word}
 use Rattle.canon.proofs.outlines.text.Goals as goal
 
 pub returns : goal.returns

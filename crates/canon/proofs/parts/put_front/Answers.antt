@@ -1,10 +1,10 @@
 use Rattle.std.proofs.Common.{◌≡◌, ◌∙◌, ◌++◌, List, ap, map, subst}
 use Rattle.proc_macro2.specs.Token.{Token}
-use Rattle.gram_piece.specs.Pieces.{piece_token}
-use Rattle.gram_piece.specs.Sheets.{Shows}
-use Rattle.gram_piece.specs.declared.piece.Piece.{Piece}
-use Rattle.gram_way.specs.Said.{said}
-use Rattle.gram_write.proofs.Read.{formed_read}
+use Rattle.writer_print.specs.Pieces.{piece_token}
+use Rattle.writer_print.specs.Sheets.{Shows}
+use Rattle.writer_print.specs.declared.piece.Piece.{Piece}
+use Rattle.writer_rules.specs.Said.{said}
+use Rattle.writer_read.proofs.Read.{formed_read}
 use Rattle.syn_grammar.specs.Kind.{InnerAttributes, Plain}
 use Rattle.canon.proofs.Parted.{front_put}
 use Rattle.canon.specs.Parts.{written_as}

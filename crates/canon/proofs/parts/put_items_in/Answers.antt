@@ -1,10 +1,10 @@
 use Rattle.std.proofs.Common.{◌<◌, List, length, rules, subst}
 use Rattle.std.proofs.lemmas.Result.{err_from_is_err_and}
-use Rattle.gram_piece.specs.Pieces.{piece_token}
-use Rattle.gram_piece.specs.Sheets.{Shows}
-use Rattle.gram_piece.specs.declared.piece.Piece.{Piece}
-use Rattle.gram_way.specs.Said.{said}
-use Rattle.gram_write.proofs.Read.{formed_read}
+use Rattle.writer_print.specs.Pieces.{piece_token}
+use Rattle.writer_print.specs.Sheets.{Shows}
+use Rattle.writer_print.specs.declared.piece.Piece.{Piece}
+use Rattle.writer_rules.specs.Said.{said}
+use Rattle.writer_read.proofs.Read.{formed_read}
 use Rattle.syn_grammar.specs.Kind.{AnItem, Plain}
 use Rattle.std.proofs.Common.{◌++◌, map}
 use Rattle.canon.proofs.Parted.{items_put, items_unread, one_item_more, rest_shorter, rest_within}

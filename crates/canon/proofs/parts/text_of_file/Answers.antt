@@ -1,6 +1,6 @@
 use Rattle.std.proofs.Common.{◌≡◌, List, arith, subst}
 use Rattle.std.proofs.lemmas.Result.{err_from_is_err_and}
-use Rattle.gram_run.specs.Answers.{tokens}
+use Rattle.reader_steps.specs.Answers.{tokens}
 use Rattle.syn_buffer.specs.declared.entry.Entry.{Entry}
 use Rattle.syn_grammar.specs.Kind.{Items}
 use Rattle.canon.proofs.Parted.{Progress, finished, front_unread, gone_on, rest_unread, sliced}

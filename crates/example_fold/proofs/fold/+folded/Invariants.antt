@@ -1,5 +1,5 @@
 use Rattle.std.proofs.Common.{◌+◌, ◌*◌}
-use Rattle.gram_tree.specs.Size.{node_count}
+use Rattle.reader_tree.specs.Size.{node_count}
 use Rattle.example_fold.proofs.fold.+folded.Given as goal
 
 abbrev pub decreases-folded : goal.decreases-folded

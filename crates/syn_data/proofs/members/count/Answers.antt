@@ -1,4 +1,4 @@
-use Rattle.gram_table.specs.Ops.{separator_of}
+use Rattle.reader_table.specs.Ops.{separator_of}
 use Rattle.syn_data.proofs.Listed.{counted}
 use Rattle.syn_data.proofs.members.count.Goals as goal
 

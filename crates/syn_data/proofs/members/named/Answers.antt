@@ -1,4 +1,4 @@
-use Rattle.gram_table.specs.Ops.{separator_of}
+use Rattle.reader_table.specs.Ops.{separator_of}
 use Rattle.std.specs.Prelude.{map}
 use Rattle.std.proofs.Common.{ap}
 use Rattle.syn_data.specs.Members.{member_name}

@@ -1,6 +1,6 @@
 use Rattle.std.specs.List.{All}
 use Rattle.std.specs.Prelude.{◌≡◌, ◌++◌, map, take}
-use Rattle.gram_tree.specs.declared.tree.Element.{Element}
+use Rattle.reader_tree.specs.declared.tree.Element.{Element}
 use Rattle.syn_part.specs.Shape.{IsShaped}
 use Rattle.syn_data.specs.Members.{member_name, name_of}
 use Rattle.syn_grammar.specs.Gram as g

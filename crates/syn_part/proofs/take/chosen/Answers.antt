@@ -1,5 +1,5 @@
 use Rattle.std.proofs.Common.{◌∙◌, ap, subst, sym}
-use Rattle.gram_tree.specs.Forms.{tree_of}
+use Rattle.reader_tree.specs.Forms.{tree_of}
 use Rattle.syn_grammar.specs.Gram.{alt}
 use Rattle.syn_part.specs.Shape.{IsShaped}
 use Rattle.syn_part.proofs.Takes.{second_chosen}

@@ -1,11 +1,11 @@
 use Rattle.std.proofs.Common.{rules, arith, ap, sym, subst, ◌∙◌, List}
-use Rattle.gram_table.specs.Parts.{part_of}
-use Rattle.gram_tree.specs.Forms.{tree_of}
+use Rattle.reader_table.specs.Parts.{part_of}
+use Rattle.reader_tree.specs.Forms.{tree_of}
 use Rattle.syn_buffer.specs.declared.entry.Entry.{Entry}
 use Rattle.syn_grammar.specs.Tree as t
 use Rattle.syn_placed.specs.Before.{before}
 use Rattle.syn_placed.specs.Stands.{IsPast, StandsBehind}
-use Rattle.gram_tree.proofs.Flat.{flat_seconds}
+use Rattle.reader_tree.proofs.Flat.{flat_seconds}
 use Rattle.syn_grammar.specs.Tree.{flat}
 use Rattle.syn_placed.proofs.Sizes.{first_below, second_below}
 use Rattle.syn_placed.proofs.Sought as so

@@ -1,6 +1,6 @@
 use Rattle.std.proofs.Common.{subst}
-use Rattle.gram_run.specs.Answers.{tokens}
-use Rattle.gram_table.specs.Kinds.{kind_of}
+use Rattle.reader_steps.specs.Answers.{tokens}
+use Rattle.reader_table.specs.Kinds.{kind_of}
 use Rattle.syn_buffer.specs.Entries.{entry_token}
 use Rattle.syn_grammar.specs.Read.{IsDerived}
 use Rattle.syn_read.proofs.Wholes.{none_read, more_read}

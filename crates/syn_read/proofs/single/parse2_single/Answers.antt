@@ -1,4 +1,4 @@
-use Rattle.gram_run.specs.Answers.{tokens}
+use Rattle.reader_steps.specs.Answers.{tokens}
 use Rattle.syn_read.proofs.Singles.{other_whole}
 use Rattle.syn_read.proofs.single.parse2_single.Goals as goal
 

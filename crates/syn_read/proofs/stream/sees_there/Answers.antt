@@ -1,6 +1,6 @@
 use Rattle.std.proofs.Common.{◌≡◌, ◌∙◌, List, ap, refl, sym}
 use Rattle.std.specs.Prelude.{true}
-use Rattle.gram_table.specs.Looks.{look_of}
+use Rattle.reader_table.specs.Looks.{look_of}
 use Rattle.proc_macro2.specs.Token.{Token, plain}
 use Rattle.syn_buffer.specs.Position.{rest}
 use Rattle.syn_buffer.specs.declared.position.Cursor.{Cursor}

@@ -1,8 +1,8 @@
 use Rattle.std.proofs.Common.{arith, ap, sym, ◌∙◌}
 use Rattle.std.proofs.lemmas.Grind.{common_steps}
-use Rattle.gram_tree.specs.Forms.{tree_of}
-use Rattle.gram_tree.proofs.Sizes.{element_in, turn_in, list_below, turns_below}
-use Rattle.gram_way.proofs.Fronts.{keeps_both}
+use Rattle.reader_tree.specs.Forms.{tree_of}
+use Rattle.reader_tree.proofs.Sizes.{element_in, turn_in, list_below, turns_below}
+use Rattle.writer_rules.proofs.Fronts.{keeps_both}
 use Rattle.syn_tokens.proofs.Leaves.{puts}
 use Rattle.syn_tokens.proofs.leaf.+leaves.Goals as goal
 

@@ -1,8 +1,8 @@
 use Rattle.std.proofs.Common.{◌≡◌, ◌++◌, drop}
 use Rattle.syn_tokens.specs.Leaves.{leaves_tokens}
-use Rattle.gram_table.specs.Ops.{separator_of}
-use Rattle.gram_tree.specs.Forms.{elements, turns}
-use Rattle.gram_way.specs.Front.{Keeps}
+use Rattle.reader_table.specs.Ops.{separator_of}
+use Rattle.reader_tree.specs.Forms.{elements, turns}
+use Rattle.writer_rules.specs.Front.{Keeps}
 use Rattle.syn_grammar.specs.Tree as t
 use Rattle.syn_grammar.specs.Tree.{flat}
 use Rattle.syn_tokens.proofs.leaf.+leaves.Given as goal

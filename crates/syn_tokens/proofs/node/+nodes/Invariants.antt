@@ -1,6 +1,6 @@
 use Rattle.std.proofs.Common.{◌≡◌, ◌++◌, drop, map}
-use Rattle.gram_tree.specs.Forms.{elements, turns}
-use Rattle.gram_way.specs.Front.{Keeps}
+use Rattle.reader_tree.specs.Forms.{elements, turns}
+use Rattle.writer_rules.specs.Front.{Keeps}
 use Rattle.syn_grammar.specs.Tree as t
 use Rattle.syn_tokens.specs.Nodes.{nodes}
 use Rattle.syn_tokens.proofs.node.+nodes.Given as goal

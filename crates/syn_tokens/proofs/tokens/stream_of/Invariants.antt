@@ -1,5 +1,5 @@
 use Rattle.std.proofs.Common.{[], ◌≡◌, ◌++◌, drop, map}
-use Rattle.gram_piece.specs.Pieces.{piece_token}
+use Rattle.writer_print.specs.Pieces.{piece_token}
 use Rattle.syn_tokens.specs.Nests.{are_trees, opened, stand}
 use Rattle.syn_tokens.specs.Places.{nest_tokens, placed, spans}
 use Rattle.syn_tokens.proofs.tokens.stream_of.Given as goal

@@ -1,7 +1,7 @@
 use Rattle.syn_grammar.specs.Gram.{ref}
 use Rattle.syn_grammar.specs.Kind as k
 use Rattle.syn_grammar.specs.Lists.{typed}
-use Rattle.gram_table.specs.Kinds.{kind_of}
+use Rattle.reader_table.specs.Kinds.{kind_of}
 use Rattle.syn_part.proofs.Derived.{shaped}
 use Rattle.syn_typed.proofs.ItemsAlone.{form_read, only_kept}
 use Rattle.syn_typed.proofs.one_item.parts_of.Goals as goal

@@ -1,5 +1,5 @@
 use Rattle.std.proofs.Common.{rules, ◌≡◌, subst, sym}
-use Rattle.gram_table.specs.Kinds.{plus_of}
+use Rattle.reader_table.specs.Kinds.{plus_of}
 use Rattle.syn_part.specs.Shape.{IsShaped}
 use Rattle.syn_grammar.specs.Gram as g
 use Rattle.syn_grammar.specs.Kind as k

@@ -1,5 +1,5 @@
 use Rattle.std.proofs.Common.{◌∙◌, ap, subst, sym}
-use Rattle.gram_table.specs.Kinds.{kind_of, plus_of}
+use Rattle.reader_table.specs.Kinds.{kind_of, plus_of}
 use Rattle.syn_grammar.specs.Tree as t
 use Rattle.syn_grammar.specs.Types.{type_entry}
 use Rattle.syn_part.specs.Shape.{IsAmong}

@@ -1,4 +1,4 @@
-use Rattle.gram_table.specs.Kinds.{kind_of}
+use Rattle.reader_table.specs.Kinds.{kind_of}
 use Rattle.syn_data.proofs.DataItems.{no_parts}
 use Rattle.syn_data.proofs.derive.DeriveInput.of_item.Goals as goal
 

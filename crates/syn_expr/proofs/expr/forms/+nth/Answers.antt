@@ -1,10 +1,10 @@
 use Rattle.std.specs.Prelude.{◌≡◌, ℕ, false, refl}
 use Rattle.std.proofs.Common.{◌∙◌, ap, subst, sym}
-use Rattle.gram_table.specs.Words.{sign_text}
-use Rattle.gram_table.specs.Ops.{separator_of}
-use Rattle.gram_tree.specs.Forms.{tree_of}
-use Rattle.gram_tree.specs.declared.tree.Form.{Form}
-use Rattle.gram_tree.specs.declared.tree.Form.TheVariants as forms
+use Rattle.reader_table.specs.Words.{sign_text}
+use Rattle.reader_table.specs.Ops.{separator_of}
+use Rattle.reader_tree.specs.Forms.{tree_of}
+use Rattle.reader_tree.specs.declared.tree.Form.{Form}
+use Rattle.reader_tree.specs.declared.tree.Form.TheVariants as forms
 use Rattle.syn_expr.proofs.Alternatives.{elements_choice, is_choice, mark_choice, nth_inside, nth_off, turns_choice}
 use Rattle.syn_expr.proofs.expr.forms.+nth.Goals as goal
 

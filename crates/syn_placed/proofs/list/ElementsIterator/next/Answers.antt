@@ -1,9 +1,9 @@
 use Rattle.std.proofs.Common.{◌≡◌, List, ◌∷◌, ap, sym, arith, length, ◌∙◌}
 use Rattle.std.specs.Prelude.{option_map}
 use Rattle.proc_macro2.specs.Token.{Punct}
-use Rattle.gram_table.specs.Ops.{separator_of}
-use Rattle.gram_tree.specs.Forms.{elements, ending}
-use Rattle.gram_tree.specs.declared.tree.Element.{Element}
+use Rattle.reader_table.specs.Ops.{separator_of}
+use Rattle.reader_tree.specs.Forms.{elements, ending}
+use Rattle.reader_tree.specs.declared.tree.Element.{Element}
 use Rattle.syn_grammar.specs.Tree.{flat}
 use Rattle.syn_placed.proofs.Lists.{got, listed_more}
 use Rattle.syn_placed.proofs.list.ElementsIterator.next.Goals as goal

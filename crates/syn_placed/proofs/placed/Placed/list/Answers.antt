@@ -1,7 +1,7 @@
 use Rattle.std.proofs.Common.{ap, sym, ◌∙◌}
-use Rattle.gram_table.specs.Ops.{separator_of}
-use Rattle.gram_tree.specs.Forms.{elements, tree_of}
-use Rattle.gram_tree.proofs.Shapes.{ending_now}
+use Rattle.reader_table.specs.Ops.{separator_of}
+use Rattle.reader_tree.specs.Forms.{elements, tree_of}
+use Rattle.reader_tree.proofs.Shapes.{ending_now}
 use Rattle.syn_placed.proofs.placed.Placed.list.Goals as goal
 
 pub returns-in-Elements-clause-tree : goal.returns-in-Elements-clause-tree

@@ -4,9 +4,9 @@ use Rattle.syn_buffer.specs.Entries.{spanned_entries}
 use Rattle.syn_buffer.specs.declared.entry.Entry.{Entry}
 use Rattle.proc_macro2.specs.Flat.{spanned}
 use Rattle.proc_macro2.specs.Token.{Opens, Closes}
-use Rattle.gram_run.specs.Answers.{tokens}
+use Rattle.reader_steps.specs.Answers.{tokens}
 use Rattle.proc_macro2.specs.contracts.delimiter.Delimiter.{the_type}
-use Rattle.gram_run.proofs.Groups.{entered_inside, entered_behind}
+use Rattle.reader_steps.proofs.Groups.{entered_inside, entered_behind}
 use Rattle.syn_read.proofs.Firsts.{first_rest, group_behind, group_spans, group_stands}
 use Rattle.syn_read.proofs.reader.Reader.group.Goals as goal
 

@@ -1,4 +1,4 @@
-use Rattle.gram_table.specs.Kinds.{kind_of}
+use Rattle.reader_table.specs.Kinds.{kind_of}
 use Rattle.syn_read.proofs.Onward.{form_left, form_read}
 use Rattle.syn_read.proofs.reader.Reader.parse.Goals as goal
 

@@ -1,4 +1,4 @@
-use Rattle.gram_table.specs.Words.{sign_text}
+use Rattle.reader_table.specs.Words.{sign_text}
 use Rattle.syn_read.specs.Reading.{left}
 use Rattle.syn_read.proofs.Firsts.{sign_read, sign_refused}
 use Rattle.syn_read.proofs.Onward.{sign_left, sign_stands}

@@ -1,7 +1,7 @@
 use Rattle.std.proofs.Common.{◌≡◌, ◌∙◌, ◌-◌, ◌++◌, List, ap, subst, sym, length, drop}
 use Rattle.proc_macro2.specs.Token.{Token, plain}
-use Rattle.gram_run.specs.Answers.{IsSyntax, tokens}
-use Rattle.gram_table.specs.Kinds.{kind_of}
+use Rattle.reader_steps.specs.Answers.{IsSyntax, tokens}
+use Rattle.reader_table.specs.Kinds.{kind_of}
 use Rattle.syn_buffer.specs.Entries.{is_whole}
 use Rattle.syn_buffer.specs.Position.{rest}
 use Rattle.syn_buffer.specs.declared.entry.Entry.{Entry}
@@ -10,7 +10,7 @@ use Rattle.syn_grammar.specs.Derives.{Derives}
 use Rattle.syn_grammar.specs.Gram.{ref}
 use Rattle.syn_grammar.specs.Read.{NoneRead}
 use Rattle.syn_grammar.specs.Tree.{flat}
-use Rattle.gram_read.proofs.Behind.{left}
+use Rattle.reader_rust.proofs.Behind.{left}
 use Rattle.syn_read.proofs.Behind.{left_behind, left_entries}
 use Rattle.syn_read.proofs.stream.ParseBufferParseForms.parse_as.Goals as goal
 

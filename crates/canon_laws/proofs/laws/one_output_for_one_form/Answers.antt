@@ -1,5 +1,0 @@
-use Rattle.canon_laws.proofs.Outputs as laws
-use Rattle.canon_laws.proofs.laws.one_output_for_one_form.Goals as goal
-
-pub returns : goal.returns
-returns c = laws.one_form

@@ -1,3 +1,0 @@
-pub mod Program
-pub mod Faults
-pub mod Stands

@@ -1,9 +1,0 @@
--- What becomes of what was read, in the words of the written grammar.
-use Rattle.syn_grammar.specs.Gram as g
-use Rattle.gram_judge.specs.declared.verdict.Verdict.{Verdict}
-use Rattle.gram_judge.specs.declared.verdict.Verdict.TheVariants as verdicts
-
-abbrev pub verdict_kind : Verdict → g.Verdict
-verdict_kind verdicts.Keep = g.Keep
-verdict_kind verdicts.AsRaw = g.AsRaw
-verdict_kind verdicts.Refuse = g.Refuse

@@ -1,6 +1,0 @@
--- The group that stands there.
-use Rattle.gram_look.specs.Tokens.{tokens}
-use Rattle.gram_plain.proofs.attributes.arguments.Goals as goal
-
-pub returns-in-Some : goal.returns-in-Some
-returns-in-Some c = c.some_behind.ensures (tokens c.args.at.now) _ c.in-Some.ensures c.argument_of.ensures

@@ -1,5 +1,0 @@
-use Rattle.std.proofs.Common.{length}
-use Rattle.gram_sight.proofs.form.+first_form.Given as goal
-
-abbrev pub decreases-first_form : goal.decreases-first_form
-decreases-first_form l = length l.cases.now

@@ -1,5 +1,0 @@
-use Rattle.std.proofs.Common.{length}
-use Rattle.gram_way.proofs.fields.+text_fields.Given as goal
-
-abbrev pub decreases-text_fields : goal.decreases-text_fields
-decreases-text_fields l = length l.text.now

@@ -1,5 +1,0 @@
-use Rattle.std.proofs.Common.{length}
-use Rattle.gram_way.proofs.put.+marks.Given as goal
-
-abbrev pub decreases-marks : goal.decreases-marks
-decreases-marks l = length l.others.now

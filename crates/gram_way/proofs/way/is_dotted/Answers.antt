@@ -1,6 +1,0 @@
-use Rattle.gram_way.proofs.WayForms.{undotted}
-use Rattle.gram_way.proofs.way.is_dotted.Goals as goal
-
-pub returns-in_default : goal.returns-in_default
-returns-in_default c =
-    undotted c.args.kind c.in_default.not-ExprField c.in_default.not-ExprMethodCall c.in_default.not-ExprAwait

@@ -1,8 +1,0 @@
-use Rattle.gram_way.proofs.WayForms.{other_node}
-use Rattle.gram_way.proofs.way.of_node.Goals as goal
-
-pub returns-in_default : goal.returns-in_default
-returns-in_default c =
-    other_node c.args.kind c.args.inner.now c.in_default.not-Parameter c.in_default.not-Member c.in_default.not-Index
-    c.in_default.not-Where c.in_default.not-Generics c.in_default.not-BoundsColon c.in_default.not-LifetimeColon
-    c.in_default.not-GenericParams c.in_default.not-Arguments c.in_default.not-AnImpl c.in_default.not-AStatement

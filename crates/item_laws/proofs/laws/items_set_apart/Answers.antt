@@ -1,8 +1,0 @@
-use Rattle.item_laws.proofs.SetApart as SetApart
-use Rattle.item_laws.proofs.laws.items_set_apart.Goals as goal
-
-pub returns-clause-read : goal.returns-clause-read
-returns-clause-read c = SetApart.item_apart
-
-pub returns-clause-raw : goal.returns-clause-raw
-returns-clause-raw c = SetApart.raw_apart

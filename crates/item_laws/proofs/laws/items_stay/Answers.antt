@@ -1,8 +1,0 @@
-use Rattle.item_laws.proofs.Stays as Stays
-use Rattle.item_laws.proofs.laws.items_stay.Goals as goal
-
-pub returns-clause-read : goal.returns-clause-read
-returns-clause-read c = Stays.item_stays
-
-pub returns-clause-raw : goal.returns-clause-raw
-returns-clause-raw c = Stays.raw_back

@@ -1,0 +1,4 @@
+pub mod Classes
+pub mod Edges
+pub mod Parts
+pub mod Examples

@@ -1,0 +1,4 @@
+pub mod Classes
+pub mod Edges
+pub mod Binds
+pub mod Parts

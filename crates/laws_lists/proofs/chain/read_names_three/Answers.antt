@@ -1,0 +1,28 @@
+use Rattle.std.proofs.Common.{arith}
+use Rattle.std.proofs.lemmas.Result.{IfErr-weaker, IfOk-weaker}
+use Rattle.syn_grammar.specs.Say.{ident}
+use Rattle.syn_input.specs.Input.{rest}
+use Rattle.syn_kinds.specs.Stands.{marks_stand}
+use Rattle.syn_kinds.specs.Table.{marks}
+use Rattle.syn_lists.specs.Lists.{separators, values}
+use Rattle.laws_lists.specs.Chain.{others_of}
+use Rattle.laws_lists.specs.Leaves.{mark_of}
+use Rattle.laws_lists.specs.Many.{name_tree}
+use Rattle.laws_lists.proofs.ChainRead.{chain_found, chain_none}
+use Rattle.laws_lists.proofs.NamesMany.{marks_separator, name_entry, name_listable}
+use Rattle.laws_lists.proofs.chain.read_names_three.Goals as goal
+
+pub returns-clause-found : goal.returns-clause-found
+returns-clause-found g c =
+    IfOk-weaker c.parse_separated_nonempty.result _ _
+    (λ list h. chain_found _ _ _ _ (marks_stand (marks g.row.K 3)) ident name_tree (mark_of g.row.K)
+    (others_of g.row.K 3) name_listable name_entry (marks_separator (λ p. p.spans) g.row.K 3 (omega arith))
+    (rest c.args.input.now) (values list) (separators list) (rest c.parse_separated_nonempty.new.input) h)
+    c.parse_separated_nonempty.ensures.found
+
+pub returns-clause-none : goal.returns-clause-none
+returns-clause-none g c =
+    IfErr-weaker c.parse_separated_nonempty.result _ _
+    (λ e h s. chain_none _ _ _ _ (marks_stand (marks g.row.K 3)) ident name_tree (mark_of g.row.K)
+    (others_of g.row.K 3) name_listable name_entry (marks_separator (λ p. p.spans) g.row.K 3 (omega arith))
+    (rest c.args.input.now) (h s)) c.parse_separated_nonempty.ensures.none

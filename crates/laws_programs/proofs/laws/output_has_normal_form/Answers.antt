@@ -1,0 +1,5 @@
+use Rattle.laws_programs.proofs.Outputs as laws
+use Rattle.laws_programs.proofs.laws.output_has_normal_form.Goals as goal
+
+pub returns : goal.returns
+returns c = laws.output_program

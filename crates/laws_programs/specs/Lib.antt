@@ -1,0 +1,4 @@
+pub mod Program
+pub mod Faults
+pub mod Joined
+pub mod Stands

@@ -1,0 +1,5 @@
+use Rattle.laws_reread.proofs.ToldPositions as ToldPositions
+use Rattle.laws_reread.proofs.laws.read_in_position.Goals as goal
+
+pub returns : goal.returns
+returns c = ToldPositions.read_in_position

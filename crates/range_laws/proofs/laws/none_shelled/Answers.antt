@@ -1,7 +1,0 @@
-use Rattle.syn_grammar.specs.Table.{table}
-use Rattle.range_laws.proofs.Unshelled as Unshelled
-use Rattle.range_laws.proofs.laws.none_shelled.Goals as goal
-
-pub returns : goal.returns
-unfolding table
-returns c = λ p x rest d h. Unshelled.unshelled x p rest d.1.1 h

@@ -1,5 +1,0 @@
-use Rattle.read_back.proofs.ToldPositions as ToldPositions
-use Rattle.read_back.proofs.laws.read_ended.Goals as goal
-
-pub returns : goal.returns
-returns c = ToldPositions.read_ended

@@ -1,5 +1,0 @@
-use Rattle.read_back.proofs.ReadBack as ReadBack
-use Rattle.read_back.proofs.laws.same_tokens.Goals as goal
-
-pub returns : goal.returns
-returns c = ReadBack.same_tokens

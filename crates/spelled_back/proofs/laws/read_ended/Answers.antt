@@ -1,5 +1,0 @@
-use Rattle.spelled_back.proofs.ReadBack as ReadBack
-use Rattle.spelled_back.proofs.laws.read_ended.Goals as goal
-
-pub returns : goal.returns
-returns c = ReadBack.read_ended

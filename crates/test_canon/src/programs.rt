@@ -1,0 +1,42 @@
+//! What the program does, with streams in memory.
+
+use canon::Watched;
+use canon_program::{Asked, asked_by, run_asked};
+use std::alloc::{AllocError, Global};
+use test_support::{Page, Row, Unanswered};
+
+/// The status with which the program ends, what it writes, and what it says. The row's call is the program's name and
+/// its arguments.
+pub fn program(row: Row, page: &mut Page) -> Result<(), Unanswered> {
+    let words = words(page.alloc(), row.call)?;
+    put_run(asked_by(words.as_slice()), row.text, page);
+    Ok(())
+}
+
+fn words(alloc: Global, call: &str) -> Result<Vec<String>, AllocError> {
+    let mut words = Vec::new(alloc);
+    for word in call.split_ascii_whitespace() {
+        words.push(String::from_str(alloc, word)?)?;
+    }
+    Ok(words)
+}
+
+fn put_run(asked: Asked, text: &str, page: &mut Page) {
+    let alloc = page.alloc();
+    let mut reader = Watched::new(text.as_bytes());
+    let mut writer = Watched::new(Vec::new(alloc));
+    let mut messages = Vec::new(alloc);
+    let status = run_asked(alloc, asked, &mut reader, &mut writer, &mut messages);
+    write!(page, "status {status}, writes ");
+    put_text(writer.get_ref().as_slice(), page);
+    page.put(", says ");
+    put_text(messages.as_slice(), page);
+}
+
+// Puts a text as it is written in rows.
+fn put_text(bytes: &[u8], page: &mut Page) {
+    match str::from_utf8(bytes) {
+        Ok(text) => page.quote(text),
+        Err(_) => page.cut(),
+    }
+}

@@ -1,0 +1,12 @@
+use Rattle.std.specs.Prelude.{Some}
+use Rattle.std.proofs.Common.{◌≡◌, ◌∙◌, rules}
+use Rattle.reader_table.specs.Kinds.{kind_of}
+use Rattle.reader_tree.specs.Shapes.{node_of}
+use Rattle.writer_normal.proofs.Giving.{in_other}
+use Rattle.writer_normal.proofs.stated.attributed_in.Goals as goal
+
+pub returns-in_default : goal.returns-in_default
+returns-in_default c =
+    let e : Some (kind_of c.in-Some.kind, c.in-Some.inner.now) ≡ node_of c.args.tree.now = search rules in
+    c.copy-in_default.ensures
+    ∙ in_other c.args.attributes.now c.args.tree.now c.in-Some.kind c.in-Some.inner.now e c.in_default.not-Expression

@@ -1,0 +1,13 @@
+use Rattle.std.specs.Prelude.{Some, false}
+use Rattle.std.proofs.Common.{◌≡◌, rules}
+use Rattle.reader_table.specs.Kinds.{kind_of}
+use Rattle.reader_tree.specs.Shapes.{node_of}
+use Rattle.syn_grammar.specs.Tidy.{is_bare_params}
+use Rattle.writer_rules.proofs.OffKinds.{in_node, is_bare_params_off}
+use Rattle.writer_rules.proofs.seen.is_bare_params.Goals as goal
+
+pub returns-in_default : goal.returns-in_default
+returns-in_default c =
+    let e : Some (kind_of c.in-Some.kind, c.in-Some.inner.now) ≡ node_of c.args.tree.now = search rules in
+    in_node is_bare_params false c.args.tree.now (kind_of c.in-Some.kind) c.in-Some.inner.now e
+    (is_bare_params_off c.in-Some.kind c.in-Some.inner.now c.in_default.not-GenericParams)
