@@ -30,7 +30,7 @@ def built(work):
     """The programs: this buffer, and the peer with and without span locations."""
     sources = {name: glob.glob(f"{REGISTRY}/{name}-[0-9]*")[0] for name in ["unicode-ident", "proc-macro2", "syn"]}
     features = [part for name in ["parsing", "full"] for part in ["--cfg", f'feature="{name}"']]
-    programs = {"this": f"{TOP}/crates/buffer_cli/out/buffer_cli"}
+    programs = {"this": f"{TOP}/crates/bench_buffer/out/bench_buffer"}
     for name, flags in PEERS.items():
         out = os.path.join(work, name.replace(" ", "-"))
         os.mkdir(out)
@@ -48,7 +48,7 @@ def built(work):
         with_syn = rustc + ["--edition", "2021", *extern["proc_macro2"], *extern["syn"]]
         subprocess.run(with_syn + ["--crate-name", "buffer_peer", HERE + "/buffer_peer.rs"], check=True)
         programs[name] = out + "/buffer_peer"
-    folder = f"{TOP}/crates/buffer_cli"
+    folder = f"{TOP}/crates/bench_buffer"
     subprocess.run(["rt", "run"], cwd=folder, stdin=subprocess.DEVNULL, capture_output=True, check=True)
     return programs
 

@@ -1,4 +1,4 @@
-//! The peer of `buffer.py`: does with syn's own buffer what `buffer_cli` does. It reads Rust source on standard input
+//! The peer of `buffer.py`: does with syn's own buffer what `bench_buffer` does. It reads Rust source on standard input
 //! and lexes it; with a number as first argument it makes the buffer of its tokens and walks it so often, and with a
 //! second argument it looks at each place for kinds too. It writes how many tokens of each sort it met.
 

@@ -176,13 +176,13 @@ def peer_of(out, flags, source):
 
 def built(work, given):
     """The programs: canon and this lexer, as they are given, and the peer with and without span locations."""
-    programs = {"canon": f"{TOP}/crates/canon_cli/out/canon_cli", "lexer": f"{TOP}/crates/lex_cli/out/lex_cli"}
+    programs = {"canon": f"{TOP}/crates/canon_cli/out/canon_cli", "lexer": f"{TOP}/crates/bench_lexer/out/bench_lexer"}
     programs.update(zip(["canon", "lexer"], given))
     for peer, flags in PEERS.items():
         out = os.path.join(work, peer.replace(" ", "-"))
         os.mkdir(out)
         programs[peer] = peer_of(out, flags, HERE + "/file_peer.rs")
-    for name in [] if given else ["canon_cli", "lex_cli"]:
+    for name in [] if given else ["canon_cli", "bench_lexer"]:
         folder = f"{TOP}/crates/{name}"
         subprocess.run(["rt", "run"], cwd=folder, stdin=subprocess.DEVNULL, capture_output=True, check=True)
     return programs

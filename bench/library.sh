@@ -7,8 +7,8 @@ if ! dpkg -s rust-src > /dev/null 2>&1; then
     apt-get update -qq
     apt-get install -y -qq rust-src > /dev/null
 fi
-(cd crates/lex_cli && rt run < /dev/null > /dev/null 2>&1)
-program=$PWD/crates/lex_cli/out/lex_cli
+(cd crates/bench_lexer && rt run < /dev/null > /dev/null 2>&1)
+program=$PWD/crates/bench_lexer/out/bench_lexer
 library=$(dpkg -L rust-src | awk '/\/library$/ && !found { print; found = 1 }')
 good=0
 bad=0

@@ -92,10 +92,10 @@ def built(work):
         subprocess.run(with_ident + ["--crate-name", "proc_macro2", peer + "/src/lib.rs"], check=True)
         with_peer = rustc + ["--edition", "2021", "-L", out, "--extern", f"proc_macro2={out}/libproc_macro2.rlib"]
         subprocess.run(with_peer + ["--crate-name", "peer", HERE + "/peer.rs"], check=True)
-    folder = f"{TOP}/crates/lex_cli"
+    folder = f"{TOP}/crates/bench_lexer"
     subprocess.run(["rt", "run"], cwd=folder, stdin=subprocess.DEVNULL, capture_output=True, check=True)
     return {
-        "this": f"{TOP}/crates/lex_cli/out/lex_cli",
+        "this": f"{TOP}/crates/bench_lexer/out/bench_lexer",
         "peer with spans": f"{work}/spans/peer",
         "peer without": f"{work}/plain/peer",
     }

@@ -1,12 +1,12 @@
 #!/usr/bin/env bash
 # Runs built programs once for each allocation that they make, refusing that one: canon_cli on small texts, on a large
-# text, on doc and other comments, on texts at fault, on an argument, and for outlines; grow_canon on the small texts,
-# behind an older text in their map, and asked once more where that was refused; lex_cli on its stored input; lex_rows
+# text, on doc and other comments, on texts at fault, on an argument, and for outlines; test_canon_growth on the small texts,
+# behind an older text in their map, and asked once more where that was refused; bench_lexer on its stored input; test_lexer
 # on each text of tests/texts, behind an older text in its map, and on what it reads, builds and shows by itself,
-# literals of texts and their values among it; parse_rows on what it reads, builds, writes and prints by itself;
-# grow_forms likewise; and made_rows on its stored input, whose rows are trees that are made of the syntax tree's
+# literals of texts and their values among it; test_parse_core on what it reads, builds, writes and prints by itself;
+# test_growth likewise; and test_made on its stored input, whose rows are trees that are made of the syntax tree's
 # types. Each run must give the answer itself, with its status and what it says on standard error, or end with nothing
-# written: with status 3 where memory was refused (in lex_rows, parse_rows, grow_forms and made_rows to a call that is
+# written: with status 3 where memory was refused (in test_lexer, test_parse_core, test_growth and test_made to a call that is
 # looked at, which then left all as it was), or with their status 4 where it was refused elsewhere.
 # canon_cli says "canon: out of memory" then, and the others nothing.
 # Usage: tests/refused.sh. `rt run` proves and builds the programs first. It needs cc, glibc and python3.
@@ -57,7 +57,7 @@ sweep() {
         "$refused with status 3, $elsewhere elsewhere, $((answered - 1)) without effect"
 }
 
-for program in canon_cli grow_canon lex_cli lex_rows parse_rows grow_forms made_rows; do
+for program in canon_cli test_canon_growth bench_lexer test_lexer test_parse_core test_growth test_made; do
     build "$program"
 done
 
@@ -70,7 +70,7 @@ both() {
     answer=$work/answer
     refusal=$'canon: out of memory\n' sweep "canon${3:+ $3} of $1" canon_cli "$work/text" "${@:3}"
     [ "${3-}" = outline ] || printf '%b' "${2%\\n}" > "$work/answer"
-    refusal='' sweep "the call${3:+ of its $3} of $1" grow_canon "$work/text" "${@:3}"
+    refusal='' sweep "the call${3:+ of its $3} of $1" test_canon_growth "$work/text" "${@:3}"
 }
 both 'fn f(){}' 'fn f () { }\n'
 both "fn f<T, 'a>() {}" "fn f < 'a , T , > () { }\n"
@@ -111,20 +111,20 @@ want=0 answer=$work/names.answer said=
 sweep "canon outline" canon_cli "$work/names" outline
 
 want=0 said= refusal=
-answer=../crates/lex_cli/stdout
-sweep "lex_cli" lex_cli ../crates/lex_cli/stdin print
+answer=../crates/bench_lexer/stdout
+sweep "bench_lexer" bench_lexer ../crates/bench_lexer/stdin print
 for text in texts/*.text; do
     answer=${text%.text}.answer
-    sweep "$text" lex_rows "$text" text
+    sweep "$text" test_lexer "$text" text
 done
 # What they answer by themselves stands before the first heading.
 answer=$work/calls.answer
-sed '/^# /,$d' ../crates/lex_rows/stdout > "$answer"
-sweep "calls of the lexer, of streams and of leaves" lex_rows /dev/null
+sed '/^# /,$d' ../crates/test_lexer/stdout > "$answer"
+sweep "calls of the lexer, of streams and of leaves" test_lexer /dev/null
 answer=$work/grown.answer
-sed '/^# /,$d' ../crates/parse_rows/stdout > "$answer"
-sweep "reading, building and printing syntax" parse_rows /dev/null grow
-answer=../crates/grow_forms/stdout
-sweep "forms that are read, written, built and compared" grow_forms "$work/nothing"
-answer=../crates/made_rows/stdout
-sweep "trees that are made of types" made_rows ../crates/made_rows/stdin
+sed '/^# /,$d' ../crates/test_parse_core/stdout > "$answer"
+sweep "reading, building and printing syntax" test_parse_core /dev/null grow
+answer=../crates/test_growth/stdout
+sweep "forms that are read, written, built and compared" test_growth "$work/nothing"
+answer=../crates/test_made/stdout
+sweep "trees that are made of types" test_made ../crates/test_made/stdin

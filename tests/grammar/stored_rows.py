@@ -1,5 +1,5 @@
 #!/usr/bin/env python3
-"""Writes the stored texts as rows of crates/canon_rows (whole files) and crates/syn_rows (forms of other kinds), each
+"""Writes the stored texts as rows of crates/test_canon (whole files) and crates/test_syn (forms of other kinds), each
 with its stored answer.
 
   stored_rows.py            writes them into stdin and stdout, behind their heading and as far as the next one
@@ -82,7 +82,7 @@ def main(args):
     is_check = args[:1] == ['--check']
     files = rows(lambda kind: kind == 'file', file_answer)
     forms = rows(lambda kind: kind != 'file' and kind not in OTHERS, form_answer)
-    return max(put('canon_rows', FILES, files, is_check), put('syn_rows', FORMS, forms, is_check))
+    return max(put('test_canon', FILES, files, is_check), put('test_syn', FORMS, forms, is_check))
 
 
 if __name__ == '__main__':
