@@ -28,7 +28,7 @@ fn public_elements<'a>(
         let tree = public_field(arena, vis, &element.tree)?;
         made.push(Element {
             tree,
-            spacing: element.spacing,
+            spacing: element.spacing.copy(),
         })?;
     }
     Ok(made)

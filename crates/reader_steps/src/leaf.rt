@@ -17,6 +17,7 @@ use reader_table::op::Separator;
 use reader_table::word::{Literals, Sign, Words};
 use reader_tree::arena::Arena;
 use reader_tree::made;
+use reader_tree::placed_spacing::PlacedSpacing;
 use reader_tree::tree::Tree;
 use rust_leaf::punct::Spacing;
 use syn_buffer::entry::Entry;
@@ -118,7 +119,7 @@ pub(crate) fn raw<'a>(
 pub(crate) fn separator<'a>(
     separator: Separator,
     at: &'a [Entry<'a>],
-) -> Option<(Spacing, &'a [Entry<'a>])>
+) -> Option<(PlacedSpacing, &'a [Entry<'a>])>
     requires { IsTrue (is_whole at.now) }
     ensures none { IfNone result (sees (past_marks (separator_of separator) []) (tokens at.now) ≡ false) }
     ensures seen { IfSome result (λ x. sees (past_marks (separator_of separator) []) (tokens at.now) ≡ true) }
@@ -133,7 +134,7 @@ pub(crate) fn separator<'a>(
     if mark.as_char() != character(separator) {
         return None;
     }
-    Some((mark.spacing(), rest))
+    Some((PlacedSpacing::new(mark.spacing(), mark.span()), rest))
 }
 
 // The character of a separator.

@@ -14,5 +14,6 @@ pub mod copy;
 pub mod count;
 pub mod made;
 pub mod part;
+pub mod placed_spacing;
 pub mod shape;
 pub mod tree;

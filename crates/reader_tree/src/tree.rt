@@ -1,5 +1,6 @@
 //! Trees of what was read.
 
+use crate::placed_spacing::PlacedSpacing;
 use proc_macro2::delimiter::Delimiter;
 use reader_table::kind::Kind;
 use reader_table::op::Separator;
@@ -47,14 +48,14 @@ pub struct Between<T> {
 /// An infix form's left operand, its own part, and its right operand.
 pub type Three<'a> = Between<Tree<'a>>;
 
-/// An element of a list, and how the mark behind it is spaced.
+/// An element of a list, and how the mark behind it is spaced, and where that stands.
 #[cycle(tree)]
 #[derive(Drop)]
 pub struct Element<'a> {
     /// The element.
     pub tree: Tree<'a>,
-    /// The spacing of the mark behind it.
-    pub spacing: Spacing,
+    /// The spacing of the mark behind it, and its place.
+    pub spacing: PlacedSpacing,
 }
 
 /// Elements with a mark behind each, and a last one that none follows.

@@ -23,7 +23,7 @@ fn copied_elements<'a>(
     for element in elements {
         copies.push(Element {
             tree: element.tree.copy(),
-            spacing: element.spacing,
+            spacing: element.spacing.copy(),
         })?;
     }
     Ok(copies)

@@ -186,7 +186,7 @@ one_placed ss (pieces.Ident i) ps h = refl
 one_placed ss (pieces.Literal l) ps h = refl
 one_placed ss (pieces.Mark c spacing s) ps h = refl
 one_placed ss pieces.Underscore ps h = refl
-one_placed ss (pieces.Index n) ps h = refl
+one_placed ss (pieces.Index n span) ps h = refl
 
 pub leaf_placed : (old new es : List Spanned) (ss ts : List Span) (p : Piece) (ps : List Piece)
     → new ≡ old ++ es → es ≡ placed_piece p ∷ [] → ts ≡ ss → is_leaf (piece_token p) ≡ true
@@ -223,7 +223,7 @@ all_placed ss (pieces.Ident i ∷ ps) = ap (λ ts. piece_token (pieces.Ident i) 
 all_placed ss (pieces.Literal l ∷ ps) = ap (λ ts. piece_token (pieces.Literal l) ∷ ts) (all_placed ss ps)
 all_placed ss (pieces.Mark c spacing s ∷ ps) = ap (λ ts. Punct c spacing ∷ ts) (all_placed ss ps)
 all_placed ss (pieces.Underscore ∷ ps) = ap (λ ts. piece_token pieces.Underscore ∷ ts) (all_placed ss ps)
-all_placed ss (pieces.Index n ∷ ps) = ap (λ ts. piece_token (pieces.Index n) ∷ ts) (all_placed ss ps)
+all_placed ss (pieces.Index n span ∷ ps) = ap (λ ts. piece_token (pieces.Index n span) ∷ ts) (all_placed ss ps)
 
 pub put_all : (all : List Spanned) (ps : List Piece) → all ≡ placed [] ps → plain all ≡ map piece_token ps
 put_all all ps e = ap plain e ∙ all_placed [] ps

@@ -24,7 +24,7 @@ placed ss (pieces.Ident i ∷ ps) = placed_piece (pieces.Ident i) ∷ placed ss 
 placed ss (pieces.Literal l ∷ ps) = placed_piece (pieces.Literal l) ∷ placed ss ps
 placed ss (pieces.Mark c spacing s ∷ ps) = placed_piece (pieces.Mark c spacing s) ∷ placed ss ps
 placed ss (pieces.Underscore ∷ ps) = placed_piece pieces.Underscore ∷ placed ss ps
-placed ss (pieces.Index n ∷ ps) = placed_piece (pieces.Index n) ∷ placed ss ps
+placed ss (pieces.Index n span ∷ ps) = placed_piece (pieces.Index n span) ∷ placed ss ps
 
 -- The tokens before groups that are open, the outermost first, with the mark of each.
 abbrev pub outer_tokens : List Outer → List Spanned

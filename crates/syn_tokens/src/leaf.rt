@@ -139,7 +139,7 @@ fn put_elements<'a>(
 {
     for element in before {
         put_leaves(&element.tree, out)?;
-        put(Leaf::Separator(mark, element.spacing), out)?;
+        put(Leaf::Separator(mark, element.spacing.spacing()), out)?;
     }
     Ok(())
 }

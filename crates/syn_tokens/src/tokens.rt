@@ -94,7 +94,11 @@ fn leaf(alloc: Global, piece: &Piece<'_>) -> Result<Option<TokenTree>, AllocErro
             Ok(Some(TokenTree::Ident(word)))
         }
         Piece::Literal(literal) => Ok(unsigned(literal.try_clone()?)),
-        Piece::Index(index) => Ok(unsigned(Literal::u32_unsuffixed(alloc, *index)?)),
+        Piece::Index(index, span) => {
+            let mut literal = Literal::u32_unsuffixed(alloc, *index)?;
+            literal.set_span(*span);
+            Ok(unsigned(literal))
+        }
         Piece::Mark(mark, spacing, span) => {
             if Punct::is_mark(*mark) {
                 Ok(Some(mark_at(*mark, *spacing, *span)))
@@ -185,8 +189,8 @@ impl Nest {
     }
 }
 
-/// The stream of tokens that are to be written, each where it was read. What was added, a mark between elements, and
-/// what was made without a place stand at no place of a text; the marks of one punctuation all stand where its first
+/// The stream of tokens that are to be written, each where it was read. What was added, and what was made without a
+/// place, stand at no place of a text; the marks of one punctuation all stand where its first
 /// one does. There is none where the tokens are those of no stream: a group is closed that was not opened, or is not
 /// closed; a mark is no mark; or a literal begins with a minus.
 ///

@@ -1,5 +1,6 @@
 //! What is written behind older tokens.
 
+use rust_map::span::Span;
 use std::alloc::Global;
 use test_support::{Page, Stop, looked_at, refused};
 use writer_print::piece::Piece;
@@ -7,7 +8,7 @@ use writer_print::print::print;
 
 /// Older tokens.
 pub(crate) fn older<'a>(alloc: Global) -> Result<Vec<Piece<'a>>, Stop> {
-    Ok(vec![in alloc; Piece::Underscore, Piece::Index(7)]?)
+    Ok(vec![in alloc; Piece::Underscore, Piece::Index(7, Span::call_site())]?)
 }
 
 /// Puts the text of what was written behind the older tokens. Where that was refused, those stand in front.

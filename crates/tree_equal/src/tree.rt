@@ -71,7 +71,9 @@ fn equal_elements<'t, 'a>(elements: &'t [Element<'a>], others: &'t [Element<'a>]
     }
     for (index, element) in elements.iter().enumerate() {
         let other = &others[index];
-        if !same_spacing(element.spacing, other.spacing) || !equal(&element.tree, &other.tree) {
+        if !same_spacing(element.spacing.spacing(), other.spacing.spacing())
+            || !equal(&element.tree, &other.tree)
+        {
             return false;
         }
     }

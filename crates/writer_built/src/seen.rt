@@ -41,7 +41,7 @@ impl<'a> Seen<'a> {
             Piece::Open(delimiter, _) => Seen::Open(delimiter),
             Piece::Close(delimiter) => Seen::Close(delimiter),
             Piece::Underscore => Seen::Underscore,
-            Piece::Index(index) => Seen::Index(index),
+            Piece::Index(index, _) => Seen::Index(index),
         }
     }
 }

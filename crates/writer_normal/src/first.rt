@@ -126,7 +126,7 @@ fn followed_elements<'a>(front: Head<'a>, mark: Separator, before: &[Element<'a>
     match front {
         Head::Three(_, _, _) => front,
         _ => {
-            let behind = Head::One(separator(mark, element.spacing));
+            let behind = Head::One(separator(mark, element.spacing.spacing()));
             followed_elements(joined(followed(front, &element.tree), behind), mark, others)
         }
     }

@@ -17,6 +17,7 @@ use crate::verbatim::verbatim;
 use reader_table::kind::Kind;
 use reader_tree::arena::Arena;
 use reader_tree::made;
+use reader_tree::placed_spacing::PlacedSpacing;
 use reader_tree::tree::{Element, Form, Separated, Tree};
 use rust_leaf::punct::Spacing;
 use std::alloc::AllocError;
@@ -59,7 +60,7 @@ fn put_elements<'t, 'a>(
     for element in before {
         out.push(Element {
             tree: kept_in(arena, &element.tree, frames)?,
-            spacing: Spacing::Alone,
+            spacing: PlacedSpacing::new(Spacing::Alone, element.spacing.span()),
         })?;
     }
     Ok(())

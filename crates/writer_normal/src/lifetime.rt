@@ -16,8 +16,10 @@ use reader_table::op::Separator;
 use reader_table::part::Part;
 use reader_tree::arena::Arena;
 use reader_tree::made;
+use reader_tree::placed_spacing::PlacedSpacing;
 use reader_tree::tree::{Element, Form, Separated, Tree};
 use rust_leaf::punct::Spacing;
+use rust_map::span::Span;
 use std::alloc::AllocError;
 use writer_rules::seen::is_lifetime_param;
 
@@ -59,7 +61,7 @@ fn copied<'a>(element: &Element<'a>) -> Element<'a>
 {
     Element {
         tree: element.tree.copy(),
-        spacing: element.spacing,
+        spacing: element.spacing.copy(),
     }
 }
 
@@ -132,7 +134,7 @@ fn before_others<'a>(
     let mut all = firsts;
     all.push(Element {
         tree: last.copy(),
-        spacing: Spacing::Alone,
+        spacing: PlacedSpacing::new(Spacing::Alone, Span::call_site()),
     })?;
     put_others(which, before, &mut all)?;
     made::elements(arena, Separator::Comma, all, None)

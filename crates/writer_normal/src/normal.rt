@@ -29,6 +29,7 @@ use reader_table::kind::{Kind, Position};
 use reader_table::part::Part;
 use reader_tree::arena::Arena;
 use reader_tree::made;
+use reader_tree::placed_spacing::PlacedSpacing;
 use reader_tree::tree::{Element, Form, Separated, Three, Tree, Two};
 use reader_verdicts::level::inside;
 use rust_leaf::punct::Spacing;
@@ -139,7 +140,7 @@ fn put_elements<'a>(
     for element in before {
         out.push(Element {
             tree: normal_in(arena, position, &element.tree)?,
-            spacing: Spacing::Alone,
+            spacing: PlacedSpacing::new(Spacing::Alone, element.spacing.span()),
         })?;
     }
     Ok(())

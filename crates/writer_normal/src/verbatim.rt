@@ -65,8 +65,9 @@ fn entry<'a>(arena: &'a Arena, piece: Piece<'a>) -> Result<Entry<'a>, AllocError
         Piece::Open(delimiter, span) => Ok(Entry::Open(delimiter, span, 0)),
         Piece::Close(delimiter) => Ok(Entry::Close(delimiter, Span::call_site())),
         Piece::Underscore => Ok(Entry::Ident(underscore(arena)?)),
-        Piece::Index(index) => {
-            let literal = Literal::u32_unsuffixed(arena.alloc(), index)?;
+        Piece::Index(index, span) => {
+            let mut literal = Literal::u32_unsuffixed(arena.alloc(), index)?;
+            literal.set_span(span);
             Ok(Entry::Literal(arena.put(literal)?))
         }
     }

@@ -18,9 +18,9 @@ piece_token (pieces.Mark c spacing span) = Punct c spacing
 piece_token (pieces.Open d span) = Opens d
 piece_token (pieces.Close d) = Closes d
 piece_token pieces.Underscore = Ident (codes "_")
-piece_token (pieces.Index n) = Literal (decimal n)
+piece_token (pieces.Index n span) = Literal (decimal n)
 
--- Words and literals stand where they were read, marks and groups where it is said, and all else at no place of a text.
+-- Words and literals stand where they were read, marks, groups and indices where it is said, and all else at no place of a text.
 abbrev pub piece_span : Piece → Span
 piece_span (pieces.Ident i) = ident_span i.now
 piece_span (pieces.Literal l) = literal_span l.now
@@ -28,7 +28,7 @@ piece_span (pieces.Mark c spacing span) = span
 piece_span (pieces.Open d span) = span
 piece_span (pieces.Close d) = call_site
 piece_span pieces.Underscore = call_site
-piece_span (pieces.Index n) = call_site
+piece_span (pieces.Index n span) = span
 
 -- A token that was read stands where it did; what closes a group keeps no place, since all of the group has one.
 abbrev pub read_span : Entry → Span

@@ -26,8 +26,8 @@ pub enum Piece<'a> {
     Close(Delimiter),
     /// The word `_`.
     Underscore,
-    /// An index, in plain decimal.
-    Index(u32),
+    /// An index, in plain decimal, and where the number stands that it is written for.
+    Index(u32, Span),
 }
 
 impl<'a> Piece<'a> {

@@ -140,7 +140,7 @@ fn push_piece(out: &mut String, piece: &Piece) -> Result<(), AllocError>
         Piece::Open(delimiter, _) => push_opening(out, *delimiter),
         Piece::Close(delimiter) => push_closing(out, *delimiter),
         Piece::Underscore => push_mark(out, '_'),
-        Piece::Index(index) => push_index(out, *index),
+        Piece::Index(index, _) => push_index(out, *index),
     }
 }
 

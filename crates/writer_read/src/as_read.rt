@@ -205,7 +205,7 @@ fn put_elements<'a>(
 {
     for element in before {
         put_as_read(&element.tree, out)?;
-        separator(mark, element.spacing, out)?;
+        separator(mark, element.spacing.spacing(), element.spacing.span(), out)?;
     }
     Ok(())
 }

@@ -184,7 +184,7 @@ fn put_elements<'a>(
 {
     for element in before {
         put_laid(Within::Anywhere, &element.tree, out)?;
-        separator(mark, Spacing::Alone, out)?;
+        separator(mark, Spacing::Alone, element.spacing.span(), out)?;
     }
     Ok(())
 }
@@ -302,7 +302,7 @@ fn put_those<'a>(
     for element in before {
         if passes(which, &element.tree) {
             put_laid(Within::Anywhere, &element.tree, out)?;
-            separator(mark, Spacing::Alone, out)?;
+            separator(mark, Spacing::Alone, element.spacing.span(), out)?;
         }
     }
     Ok(())
@@ -324,7 +324,7 @@ fn put_others<'a>(
     for element in before {
         if !passes(which, &element.tree) {
             put_laid(Within::Anywhere, &element.tree, out)?;
-            separator(mark, Spacing::Alone, out)?;
+            separator(mark, Spacing::Alone, element.spacing.span(), out)?;
         }
     }
     Ok(())

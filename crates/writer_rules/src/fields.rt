@@ -76,12 +76,15 @@ pub fn number<'a>(literal: &Literal, out: &mut Vec<Piece<'a>>) -> Result<(), All
         ≡ map piece_token out.old.items ++ token.Literal (plain_decimal (literal_text literal.now)) ∷ []) }
     ensures keeps { Keeps out.old.items out.new.items }
 {
-    one(Piece::Index(whole_index(literal.as_str())), out)
+    one(
+        Piece::Index(whole_index(literal.as_str()), literal.span()),
+        out,
+    )
 }
 
-// Puts the index that stands up to the first dot behind a dot. What is left from that dot on.
+// Puts the index that stands up to the first dot behind a dot, both at that place. What is left from that dot on.
 #[tactic(auto, unfolding(syn_grammar::specs::Words::plain_decimal), using(crate::proofs::Pushing::puts, crate::proofs::Fronts::kept))]
-fn field<'a, 't>(text: &'t str, out: &mut Vec<Piece<'a>>) -> Result<&'t str, AllocError>
+fn field<'a, 't>(text: &'t str, span: Span, out: &mut Vec<Piece<'a>>) -> Result<&'t str, AllocError>
     ensures put { OnOk result (map piece_token out.new.items ≡ map piece_token out.old.items
         ++ token.Punct 46 Apart ∷ token.Literal (plain_decimal (before_dot (chars text.now))) ∷ []) }
     ensures keeps { Keeps out.old.items out.new.items }
@@ -89,29 +92,29 @@ fn field<'a, 't>(text: &'t str, out: &mut Vec<Piece<'a>>) -> Result<&'t str, All
     ensures shorter { IfOk result (λ left. length left.now ≤ length text.now) }
 {
     let (value, left) = index(text);
-    one(Piece::Mark('.', Spacing::Alone, Span::call_site()), out)?;
-    one(Piece::Index(value), out)?;
+    one(Piece::Mark('.', Spacing::Alone, span), out)?;
+    one(Piece::Index(value, span), out)?;
     Ok(left)
 }
 
-// Puts the indices of a text, each behind a dot.
+// Puts the indices of a text, each behind a dot, at that place.
 #[tactic(auto, using(crate::proofs::Indices::all_fields, crate::proofs::Fronts::kept))]
-fn text_fields<'a>(text: &str, out: &mut Vec<Piece<'a>>) -> Result<(), AllocError>
+fn text_fields<'a>(text: &str, span: Span, out: &mut Vec<Piece<'a>>) -> Result<(), AllocError>
     ensures put { OnOk result (map piece_token out.new.items
         ≡ map piece_token out.old.items ++ fields (indices (chars text.now))) }
     ensures keeps { Keeps out.old.items out.new.items }
 {
-    let left = field(text, out)?;
+    let left = field(text, span, out)?;
     let Some((_, behind)) = first_char(left) else {
         return Ok(());
     };
     match first_char(behind) {
         None => Ok(()),
-        Some(_) => text_fields(behind, out),
+        Some(_) => text_fields(behind, span, out),
     }
 }
 
-/// Puts the indices that a number behind a dot writes, each behind a dot.
+/// Puts the indices that a number behind a dot writes, each behind a dot, where the number stands.
 ///
 /// # Errors
 ///
@@ -122,7 +125,7 @@ pub fn put_fields<'a>(literal: &Literal, out: &mut Vec<Piece<'a>>) -> Result<(),
         ≡ map piece_token out.old.items ++ fields (indices (literal_text literal.now))) }
     ensures keeps { Keeps out.old.items out.new.items }
 {
-    text_fields(literal.as_str(), out)
+    text_fields(literal.as_str(), literal.span(), out)
 }
 
 /// Puts the indices that numbers in front write, those that end in a dot, each behind a dot.

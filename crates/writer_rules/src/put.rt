@@ -155,7 +155,7 @@ pub fn sign<'a>(
     }
 }
 
-/// Puts the mark behind an element, so spaced, at no place of a text: a list keeps none.
+/// Puts the mark behind an element, so spaced, which stands there.
 ///
 /// # Errors
 ///
@@ -164,6 +164,7 @@ pub fn sign<'a>(
 pub fn separator<'a>(
     mark: Separator,
     spacing: Spacing,
+    span: Span,
     out: &mut Vec<Piece<'a>>,
 ) -> Result<(), AllocError>
     ensures put { OnOk result (map piece_token out.new.items
@@ -171,8 +172,8 @@ pub fn separator<'a>(
     ensures keeps { Keeps out.old.items out.new.items }
 {
     match mark {
-        Separator::Comma => one(Piece::Mark(',', spacing, Span::call_site()), out),
-        Separator::Plus => one(Piece::Mark('+', spacing, Span::call_site()), out),
+        Separator::Comma => one(Piece::Mark(',', spacing, span), out),
+        Separator::Plus => one(Piece::Mark('+', spacing, span), out),
     }
 }
 

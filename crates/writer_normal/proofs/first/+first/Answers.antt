@@ -1,3 +1,4 @@
+use Rattle.proc_macro2.specs.Token.{Punct}
 use Rattle.std.proofs.Common.{◌≡◌, ◌∙◌, ◌∷◌, ◌++◌, [], ap, arith, inl, inr, sym}
 use Rattle.reader_table.specs.Kinds.{kind_of}
 use Rattle.reader_table.specs.Ops.{separator_of}
@@ -79,7 +80,8 @@ followed_elements-returns-in_default-front n c =
     elements_more (head_tokens c.followed_elements.result) (head_tokens c.joined.result) (head_tokens c.followed.result)
     (head_tokens c.args.front) (separator_of c.args.mark) c.in-Some.element.now c.args.before.now c.in-Some.others.now
     c.followed_elements.ensures
-    (c.joined.ensures ∙ ap (λ u. front3 (head_tokens c.followed.result ++ u ∷ [])) c.separator.ensures)
+    (c.joined.ensures ∙ ap (λ u. front3 (head_tokens c.followed.result ++ u ∷ []))
+    (c.separator.ensures ∙ ap (Punct (separator_of c.args.mark)) c.spacing.ensures))
     c.followed.ensures c.in-Some.ensures.cases.0
 
 pub followed_turns-returns-in_default-front : goal.followed_turns-returns-in_default-front

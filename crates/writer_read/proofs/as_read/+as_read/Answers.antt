@@ -3,7 +3,10 @@ use Rattle.std.proofs.Common.{append_assoc, arith, ap, inl, inr, sym, refl, rule
 use Rattle.std.proofs.Common.{take}
 use Rattle.std.proofs.lemmas.List.{take_all}
 use Rattle.reader_table.specs.Kinds.{kind_of}
+use Rattle.proc_macro2.specs.Token.{Token, Punct}
+use Rattle.rust_leaf.specs.declared.punct.Spacing.{Spacing}
 use Rattle.reader_table.specs.Ops.{separator_of}
+use Rattle.reader_table.specs.declared.op.Separator.{Separator}
 use Rattle.reader_tree.specs.declared.tree.Element.{Element}
 use Rattle.reader_tree.specs.Forms.{elements, ending, tree_of, turns}
 use Rattle.reader_tree.specs.Size.{node_count}
@@ -22,6 +25,10 @@ use Rattle.writer_read.proofs.Flat.{behind_back, behind_infix, behind_none, elem
 use Rattle.writer_read.proofs.Flat.{other_read, put_read, read_put, rest_read}
 use Rattle.writer_read.proofs.Inside.{first_below, second_below}
 use Rattle.writer_read.proofs.as_read.+as_read.Goals as goal
+
+-- the mark of a separator, so spaced
+abbrev mark_token : Separator → Spacing → List Token
+mark_token mark spacing = Punct (separator_of mark) spacing ∷ []
 
 -- what is called is smaller
 pub put_as_read-put_turns-requires : goal.put_as_read-put_turns-requires
@@ -75,7 +82,9 @@ put_elements-loop-element-preserved n c = record {
       c.separator.ensures.keeps;
   put = element_next (separator_of c.args.mark) c.args.before.now c.loop-element.element-index c.element-item.result
       _ _ _ _ c.loop-element-test.true c.element-item.is c.loop-element.invariant.put
-      c.in_ok-put_as_read.ensures.put c.in_ok-separator.ensures.put;
+      c.in_ok-put_as_read.ensures.put
+      (c.in_ok-separator.ensures.put ∙ ap (λ s. map piece_token c.put_as_read.new.out.items ++ mark_token c.args.mark s)
+      c.spacing.ensures);
 }
 
 -- what is left, by its form
