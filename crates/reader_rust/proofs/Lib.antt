@@ -1,3 +1,4 @@
 pub mod Behind
 pub mod Counts
+pub mod Ahead
 pub mod Listed

@@ -1,10 +1,14 @@
 //! The names of a file's items.
 
+ghost use Rattle.reader_rust.specs.Ahead.{ahead_names, ahead_tokens, ahead_weight};
+ghost use Rattle.reader_rust.specs.Ahead.{next_names, next_tokens, next_weight};
 ghost use Rattle.reader_rust.specs.Names.{lister_of, name_of, named_of};
+ghost use Rattle.reader_rust.specs.declared.names.Next.TheVariants as next;
 ghost use Rattle.reader_table.specs.Kinds.{kind_of};
 ghost use Rattle.reader_table.specs.Parts.{part_of};
-ghost use Rattle.reader_tree.specs.Forms.{turns};
-ghost use Rattle.std.specs.Prelude.{◌≡◌, ◌++◌, ◌+◌, ◌<◌, ◌^◌, [], IfOk, OnOk, length, map};
+ghost use Rattle.reader_tree.specs.Size.{node_count};
+ghost use Rattle.std.specs.Prelude.{◌≡◌, ◌++◌, ◌+◌, ◌*◌, ◌<◌, ◌^◌, []};
+ghost use Rattle.std.specs.Prelude.{IfOk, OnOk, length, map};
 ghost use Rattle.syn_grammar.specs.Name.{same_part, the_name};
 ghost use Rattle.syn_grammar.specs.Names.{Names, Others, lister, named, names, names_behind, trait_kind};
 ghost use Rattle.syn_grammar.specs.Tree.{flat};
@@ -12,7 +16,7 @@ ghost use Rattle.syn_grammar.specs.Tree.{flat};
 use crate::count::{Left, past};
 use reader_table::kind::Kind;
 use reader_table::part::Part;
-use reader_tree::tree::{Form, Tree, Two};
+use reader_tree::tree::{Form, Tree};
 use rust_leaf::ident::Ident;
 use std::alloc::AllocError;
 
@@ -56,12 +60,35 @@ pub struct Name<'a> {
     pub index: usize,
 }
 
-// What lists names: a file and its items; an item of a kind that has a name.
+/// What lists names: a file and its items; an item of a kind that has a name.
 #[derive(Clone, Copy)]
-enum Lister {
+pub(crate) enum Lister {
+    /// Nothing.
     Nothing,
+    /// A file, or its items.
     Others,
+    /// An item of a kind that has a name.
     Names(Named),
+}
+
+/// What is left to be listed.
+#[derive(Clone, Copy)]
+pub(crate) enum Next<'t, 'a> {
+    /// A tree, by what lists its names.
+    Tree(Lister, &'t Tree<'a>),
+    /// Turns, by what lists theirs.
+    Turns(Lister, &'t [Tree<'a>]),
+    /// A mark that closes a group.
+    Closing,
+}
+
+// What is left while names are listed.
+#[derive(Drop)]
+struct Walk<'t, 'a> {
+    // What is left to be counted of a tree without names.
+    left: Vec<Left<'t, 'a>>,
+    // What is left to be listed, of which the last comes next.
+    todo: Vec<Next<'t, 'a>>,
 }
 
 // A trait, or an alias of traits.
@@ -154,107 +181,178 @@ fn put_name<'a>(
     }
 }
 
-// The names in a tree that stands behind so many tokens; and so many, and those of the tree. Where no names are listed,
-// the tokens are counted: only modules in one another are gone into by calls.
-#[cycle(listing)]
-#[tactic(auto, using(crate::proofs::Listed::forms))]
-fn put_names<'t, 'a>(
+// That is left to be listed too.
+#[tactic(auto, using(crate::proofs::Ahead::aheads))]
+fn put_off<'t, 'a>(
+    index: usize,
+    next: Next<'t, 'a>,
+    todo: &mut Vec<Next<'t, 'a>>,
+) -> Result<usize, AllocError>
+    ensures same { IfOk result (λ n. n ≡ index) }
+    ensures names { OnOk result (ahead_names index todo.new.items
+        ≡ next_names index next.entry ++ ahead_names (index + next_tokens next.entry) todo.old.items) }
+    ensures tokens { OnOk result (ahead_tokens todo.new.items
+        ≡ next_tokens next.entry + ahead_tokens todo.old.items) }
+    ensures weight { OnOk result (ahead_weight todo.new.items
+        ≡ next_weight next.entry + ahead_weight todo.old.items) }
+{
+    todo.push(next)?;
+    Ok(index)
+}
+
+// The same of two, of which the first comes first.
+#[tactic(auto, using(crate::proofs::Ahead::both))]
+fn put_off_both<'t, 'a>(
+    index: usize,
+    first: Next<'t, 'a>,
+    second: Next<'t, 'a>,
+    todo: &mut Vec<Next<'t, 'a>>,
+) -> Result<usize, AllocError>
+    ensures same { IfOk result (λ n. n ≡ index) }
+    ensures names { OnOk result (ahead_names index todo.new.items
+        ≡ next_names index first.entry ++ (next_names (index + next_tokens first.entry) second.entry
+        ++ ahead_names (index + (next_tokens first.entry + next_tokens second.entry)) todo.old.items)) }
+    ensures tokens { OnOk result (ahead_tokens todo.new.items
+        ≡ next_tokens first.entry + next_tokens second.entry + ahead_tokens todo.old.items) }
+    ensures weight { OnOk result (ahead_weight todo.new.items
+        ≡ next_weight first.entry + next_weight second.entry + ahead_weight todo.old.items) }
+{
+    todo.push(second)?;
+    todo.push(first)?;
+    Ok(index)
+}
+
+// The names that a tree has itself, which stands behind so many tokens. What stands in it is put off; where no names
+// are listed, its tokens are counted. How many tokens stand before what comes next.
+#[tactic(auto, using(crate::proofs::Listed::forms, crate::proofs::Ahead::steps))]
+fn put_tree<'t, 'a>(
     lister: Lister,
     index: usize,
     tree: &'t Tree<'a>,
-    left: &mut Vec<Left<'t, 'a>>,
+    walk: &mut Walk<'t, 'a>,
     out: &mut Vec<Name<'a>>,
 ) -> Result<usize, AllocError>
-    requires empty { left.old.items ≡ [] }
+    requires empty { walk.old.left.items ≡ [] }
     requires fits { index + length (flat tree.now) < 2 ^ 64 }
-    ensures empty { OnOk result (left.new.items ≡ []) }
-    ensures names { OnOk result (map name_of out.new.items
-        ≡ map name_of out.old.items ++ names_behind (lister_of lister) index tree.now) }
-    ensures behind { IfOk result (λ n. n ≡ index + length (flat tree.now)) }
+    ensures empty { OnOk result (walk.new.left.items ≡ []) }
+    ensures names { IfOk result (λ n. map name_of out.new.items ++ ahead_names n walk.new.todo.items
+        ≡ map name_of out.old.items ++ (names_behind (lister_of lister) index tree.now
+        ++ ahead_names (index + length (flat tree.now)) walk.old.todo.items)) }
+    ensures tokens { IfOk result (λ n. n + ahead_tokens walk.new.todo.items
+        ≡ index + length (flat tree.now) + ahead_tokens walk.old.todo.items) }
+    ensures weight { OnOk result (ahead_weight walk.new.todo.items
+        < 5 * node_count tree.now + 2 + ahead_weight walk.old.todo.items) }
 {
     if let Lister::Nothing = lister {
-        return past(index, tree, left);
+        return past(index, tree, &mut walk.left);
     }
     match &tree.form {
         Form::Called(part, inner) if is_name(*part) => {
             put_name(lister, index, inner, out)?;
-            past(index, inner, left)
+            past(index, inner, &mut walk.left)
         }
-        Form::Called(_, inner) => put_names(lister, index, inner, left, out),
+        Form::Called(_, inner) | Form::First(_, inner) | Form::Second(_, inner) => {
+            put_off(index, Next::Tree(lister, inner), &mut walk.todo)
+        }
         Form::Node(kind, inner) => {
-            put_names(listed_by(lister, *kind, inner), index, inner, left, out)
+            let within = listed_by(lister, *kind, inner);
+            put_off(index, Next::Tree(within, inner), &mut walk.todo)
         }
-        Form::Pair(two) => put_two(lister, index, two, left, out),
-        Form::First(_, inner) | Form::Second(_, inner) => {
-            put_names(lister, index, inner, left, out)
+        Form::Pair(two) => {
+            let front = Next::Tree(lister, &two.front);
+            let back = Next::Tree(lister, &two.back);
+            put_off_both(index, front, back, &mut walk.todo)
         }
-        Form::Turns(turns) => put_turns(lister, index, turns.each, left, out),
-        Form::Group(_, group) => { Ok(put_names(lister, index + 1, &group.inside, left, out)? + 1) }
-        Form::Word(_) | Form::Literal(_) | Form::Mark(_, _, _) => past(index, tree, left),
-        Form::Lifetime(_) | Form::Raw(_) | Form::Nil | Form::End => past(index, tree, left),
-        Form::Elements(_) | Form::Dropped(_) | Form::Verbatim(_) => past(index, tree, left),
-        Form::Whole(_) | Form::Alone(_, _) | Form::Front(_, _) => past(index, tree, left),
-        Form::Back(_, _) | Form::Infix(_, _) => past(index, tree, left),
+        Form::Turns(turns) => put_off(index, Next::Turns(lister, turns.each), &mut walk.todo),
+        Form::Group(_, group) => {
+            let inside = Next::Tree(lister, &group.inside);
+            put_off_both(index + 1, inside, Next::Closing, &mut walk.todo)
+        }
+        Form::Word(_) | Form::Literal(_) | Form::Mark(_, _, _) => past(index, tree, &mut walk.left),
+        Form::Lifetime(_) | Form::Raw(_) | Form::Nil => past(index, tree, &mut walk.left),
+        Form::End | Form::Elements(_) | Form::Dropped(_) => past(index, tree, &mut walk.left),
+        Form::Verbatim(_) | Form::Whole(_) => past(index, tree, &mut walk.left),
+        Form::Alone(_, _) | Form::Front(_, _) => past(index, tree, &mut walk.left),
+        Form::Back(_, _) | Form::Infix(_, _) => past(index, tree, &mut walk.left),
     }
 }
 
-// The names in two trees.
-#[cycle(listing)]
-#[tactic(auto, using(crate::proofs::Listed::forms))]
-fn put_two<'t, 'a>(
-    lister: Lister,
-    index: usize,
-    two: &'t Two<'a>,
-    left: &mut Vec<Left<'t, 'a>>,
-    out: &mut Vec<Name<'a>>,
-) -> Result<usize, AllocError>
-    requires empty { left.old.items ≡ [] }
-    requires fits { index + length (flat two.now.front ++ flat two.now.back) < 2 ^ 64 }
-    ensures empty { OnOk result (left.new.items ≡ []) }
-    ensures names { OnOk result (map name_of out.new.items
-        ≡ map name_of out.old.items ++ (names_behind (lister_of lister) index two.now.front
-        ++ names_behind (lister_of lister) (index + length (flat two.now.front)) two.now.back)) }
-    ensures behind { IfOk result (λ n. n ≡ index + length (flat two.now.front ++ flat two.now.back)) }
-{
-    let behind = put_names(lister, index, &two.front, left, out)?;
-    put_names(lister, behind, &two.back, left, out)
-}
-
-// The names in turns.
-#[cycle(listing)]
-#[tactic(auto, using(crate::proofs::Listed::forms))]
+// The first of turns is put off, and the others behind it.
+#[tactic(auto, using(crate::proofs::Listed::forms, crate::proofs::Ahead::steps))]
 fn put_turns<'t, 'a>(
     lister: Lister,
     index: usize,
-    trees: &'t [Tree<'a>],
-    left: &mut Vec<Left<'t, 'a>>,
+    turns: &'t [Tree<'a>],
+    todo: &mut Vec<Next<'t, 'a>>,
+) -> Result<usize, AllocError>
+    ensures same { IfOk result (λ n. n ≡ index) }
+    ensures names { OnOk result (ahead_names index todo.new.items
+        ≡ next_names index (next.Turns lister turns.entry)
+        ++ ahead_names (index + next_tokens (next.Turns lister turns.entry)) todo.old.items) }
+    ensures tokens { OnOk result (ahead_tokens todo.new.items
+        ≡ next_tokens (next.Turns lister turns.entry) + ahead_tokens todo.old.items) }
+    ensures weight { OnOk result (ahead_weight todo.new.items
+        < next_weight (next.Turns lister turns.entry) + ahead_weight todo.old.items) }
+{
+    match turns.split_first() {
+        Some((first, rest)) => {
+            put_off_both(
+                index,
+                Next::Tree(lister, first),
+                Next::Turns(lister, rest),
+                todo,
+            )
+        }
+        None => Ok(index),
+    }
+}
+
+// The names that what comes next has itself. How many tokens stand before what comes then.
+#[tactic(auto, using(crate::proofs::Ahead::steps))]
+fn put_next<'t, 'a>(
+    index: usize,
+    next: Next<'t, 'a>,
+    walk: &mut Walk<'t, 'a>,
     out: &mut Vec<Name<'a>>,
 ) -> Result<usize, AllocError>
-    requires empty { left.old.items ≡ [] }
-    requires fits { index + length (flat (turns trees.now)) < 2 ^ 64 }
-    ensures empty { OnOk result (left.new.items ≡ []) }
-    ensures names { OnOk result (map name_of out.new.items
-        ≡ map name_of out.old.items ++ names_behind (lister_of lister) index (turns trees.now)) }
-    ensures behind { IfOk result (λ n. n ≡ index + length (flat (turns trees.now))) }
+    requires empty { walk.old.left.items ≡ [] }
+    requires fits { index + next_tokens next < 2 ^ 64 }
+    ensures empty { OnOk result (walk.new.left.items ≡ []) }
+    ensures names { IfOk result (λ n. map name_of out.new.items ++ ahead_names n walk.new.todo.items
+        ≡ map name_of out.old.items ++ (next_names index next.entry
+        ++ ahead_names (index + next_tokens next.entry) walk.old.todo.items)) }
+    ensures tokens { IfOk result (λ n. n + ahead_tokens walk.new.todo.items
+        ≡ index + next_tokens next.entry + ahead_tokens walk.old.todo.items) }
+    ensures weight { OnOk result (ahead_weight walk.new.todo.items
+        < next_weight next.entry + ahead_weight walk.old.todo.items) }
 {
-    let mut behind = index;
-    for tree in trees {
-        behind = put_names(lister, behind, tree, left, out)?;
+    match next {
+        Next::Tree(lister, tree) => put_tree(lister, index, tree, walk, out),
+        Next::Turns(lister, turns) => put_turns(lister, index, turns, &mut walk.todo),
+        Next::Closing => Ok(index + 1),
     }
-    Ok(behind)
 }
 
 /// Puts the names of a file's items, in their order, those of an inline module behind its own, behind the names that
-/// are given.
+/// are given. Modules may stand in one another as deep as a text is long.
 ///
 /// # Errors
 ///
-/// Where there is no memory for more names, or for what is left to be counted of a tree.
+/// Where there is no memory for more names, or for what is left to be listed.
+#[tactic(auto, using(crate::proofs::Ahead::steps, crate::proofs::Ahead::aheads))]
 pub fn names<'a>(file: &Tree<'a>, out: &mut Vec<Name<'a>>) -> Result<(), AllocError>
     requires { length (flat file.now) < 2 ^ 64 }
     ensures { OnOk result (map name_of out.new.items ≡ map name_of out.old.items ++ names file.now) }
 {
-    let mut left = Vec::new(*out.allocator());
-    put_names(Lister::Others, 0, file, &mut left, out)?;
+    let alloc = *out.allocator();
+    let mut walk = Walk {
+        left: Vec::new(alloc),
+        todo: Vec::new(alloc),
+    };
+    let mut behind = put_tree(Lister::Others, 0, file, &mut walk, out)?;
+    while !walk.todo.is_empty() {
+        let next = walk.todo.take_last();
+        behind = put_next(behind, next, &mut walk, out)?;
+    }
     Ok(())
 }
