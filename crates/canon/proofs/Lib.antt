@@ -1,6 +1,10 @@
 pub mod Places
 pub mod Forests
 pub mod Formed
+pub mod Attributes
+pub mod Joined
+pub mod JoinedPaged
+pub mod JoinedText
 pub mod Paged
 pub mod Trees
 pub mod Files

@@ -1,5 +1,6 @@
 -- From what was formed of a text to the page of its bytes.
-use Rattle.std.proofs.Common.{◌≡◌, ℕ, ◌+◌, ◌^◌, ◌<◌, ◌≤◌, List, [], ◌∷◌, ◌++◌, length, refl, sym, ap, ap₂, ◌∙◌, arith, subst}
+use Rattle.std.proofs.Common.{◌≡◌, ℕ, ◌+◌, ◌^◌, ◌<◌, ◌≤◌, List, [], ◌∷◌, ◌++◌, length}
+use Rattle.std.proofs.Common.{refl, sym, ap, ap₂, ◌∙◌, arith, subst}
 use Rattle.std.specs.Prelude.{Option, None, Some, Result, Ok, Err, IfErr, IfSome, encode_utf8, encode_utf8_all}
 use Rattle.std.specs.Result.{IsErrAnd}
 use Rattle.std.specs.Str.{chars, IsUtf8}
@@ -10,9 +11,10 @@ use Rattle.canon.specs.Outline.{IsOutline}
 use Rattle.canon.specs.Run.{IsOutlinePage, IsPage, IsRunFault, rows_text, run_limit}
 use Rattle.canon.specs.declared.outlines.Row.{Row}
 use Rattle.canon.specs.declared.fault.Fault.{Fault}
-use Rattle.canon.specs.declared.fault.Fault.TheVariants.{NotUtf8, Lexical, Syntax, MapFull, Memory, Reading, Writing}
+use Rattle.canon.specs.declared.fault.Fault.TheVariants.{NotUtf8, Lexical, Syntax, NotFirst, MapFull, Memory}
+use Rattle.canon.specs.declared.fault.Fault.TheVariants.{Reading, Writing}
 
-line_feed : encode_utf8 10 ≡ 10 ∷ []
+pub line_feed : encode_utf8 10 ≡ 10 ∷ []
 unfolding lib.Utf8.encode
 line_feed = refl
 
@@ -52,6 +54,7 @@ run_fault bytes (Syntax error place) short utf8 f full = (short, utf8, f)
 run_fault bytes MapFull short utf8 f full = absurd (room bytes short utf8 (full refl))
 run_fault bytes Memory short utf8 f full = tt
 run_fault bytes NotUtf8 short utf8 f full = absurd f
+run_fault bytes (NotFirst index) short utf8 f full = absurd f
 run_fault bytes Reading short utf8 f full = absurd f
 run_fault bytes Writing short utf8 f full = absurd f
 
@@ -71,6 +74,7 @@ within_limit : (limit : ℕ) (bytes : List ℕ) (fault : Fault) → length bytes
 within_limit limit bytes (Lexical place) short most f = (short, f.1, f.2)
 within_limit limit bytes (Syntax error place) short most f = (short, f.1, f.2)
 within_limit limit bytes NotUtf8 short most f = (short, f.1)
+within_limit limit bytes (NotFirst index) short most f = absurd f
 within_limit limit bytes MapFull short most f = absurd (not_past limit bytes short most f)
 within_limit limit bytes Memory short most f = tt
 within_limit limit bytes Reading short most f = tt

@@ -5,5 +5,7 @@ pub mod Run
 pub mod Causes
 pub mod Maps
 pub mod Outline
+pub mod Joined
+pub mod JoinedRun
 pub mod Parts
 pub mod Unread

@@ -12,7 +12,8 @@ use Rattle.proc_macro2.specs.FileForest.{IsFileForest}
 use Rattle.syn_error.specs.Notes.{place_of}
 use Rattle.syn_buffer.specs.Entries.{same_span}
 use Rattle.canon.specs.declared.fault.Fault.{Fault}
-use Rattle.canon.specs.declared.fault.Fault.TheVariants.{NotUtf8, Lexical, Syntax, MapFull, Memory, Reading, Writing}
+use Rattle.canon.specs.declared.fault.Fault.TheVariants.{NotUtf8, Lexical, Syntax, NotFirst, MapFull, Memory}
+use Rattle.canon.specs.declared.fault.Fault.TheVariants.{Reading, Writing}
 
 -- the token begins with that character
 abbrev pub begins_with : Span → Spanned → Bool
@@ -32,6 +33,7 @@ IsPlaced base text map (Syntax error place) =
     (shebang : Option (List ℕ)) × (tokens : List Spanned) × IsFileForest base text shebang tokens
     × (place ≡ span_place map (place_of error) tokens)
 IsPlaced base text map (Lexical place) = Unit {0}
+IsPlaced base text map (NotFirst index) = Unit {0}
 IsPlaced base text map MapFull = Unit {0}
 IsPlaced base text map Memory = Unit {0}
 IsPlaced base text map NotUtf8 = Unit {0}

@@ -11,7 +11,8 @@ use Rattle.canon.specs.declared.outlines.Row.{Row}
 use Rattle.canon.specs.declared.pages.Page.{Page}
 use Rattle.canon.specs.declared.pages.Page.TheVariants.{Canonical, Outline}
 use Rattle.canon.specs.declared.fault.Fault.{Fault}
-use Rattle.canon.specs.declared.fault.Fault.TheVariants.{NotUtf8, Lexical, Syntax, MapFull, Memory, Reading, Writing}
+use Rattle.canon.specs.declared.fault.Fault.TheVariants.{NotUtf8, Lexical, Syntax, NotFirst, MapFull, Memory}
+use Rattle.canon.specs.declared.fault.Fault.TheVariants.{Reading, Writing}
 
 -- a run takes at most so many bytes, where it is given no limit of its own
 abbrev pub run_limit : ℕ
@@ -69,6 +70,7 @@ IsRunFault limit bytes (Lexical place) =
     (length bytes ≤ limit) × IsUtf8 bytes × IsFaultOf (chars bytes) (Lexical place)
 IsRunFault limit bytes (Syntax error place) =
     (length bytes ≤ limit) × IsUtf8 bytes × IsFaultOf (chars bytes) (Syntax error place)
+IsRunFault limit bytes (NotFirst index) = ⊥
 IsRunFault limit bytes Memory = Unit {0}
 IsRunFault limit bytes Reading = Unit {0}
 IsRunFault limit bytes Writing = Unit {0}

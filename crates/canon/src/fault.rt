@@ -25,6 +25,9 @@ pub enum Fault {
         /// at the text's end none does.
         place: Option<LineColumn>,
     },
+    /// The text of this number, counted from 0, may only be the first of those that are joined: it begins with a byte
+    /// order mark, a shebang, or an attribute or doc comment of the file itself.
+    NotFirst(usize),
     /// The map has no positions left for the text, or more bytes were read than a run takes.
     MapFull,
     /// A growth was refused.
@@ -57,6 +60,10 @@ impl fmt::Display for Fault {
                 let column = place.column;
                 write!(f, "syntax fault at {line}:{column}: {error}")
             }
+            Fault::NotFirst(index) => {
+                let number = *index as u128 + 1;
+                write!(f, "text {number} must come first")
+            }
             Fault::MapFull => write!(f, "source map full"),
             Fault::Memory => write!(f, "out of memory"),
             Fault::Reading => write!(f, "reading failed"),
@@ -72,7 +79,7 @@ pub fn status(outcome: &Result<(), Fault>) -> u8
 {
     match outcome {
         Ok(()) => 0,
-        Err(Fault::NotUtf8 | Fault::Lexical(_) | Fault::Syntax { .. }) => 1,
+        Err(Fault::NotUtf8 | Fault::Lexical(_) | Fault::Syntax { .. } | Fault::NotFirst(_)) => 1,
         Err(Fault::MapFull | Fault::Memory | Fault::Reading | Fault::Writing) => 3,
     }
 }

@@ -1,6 +1,7 @@
 //! The canonical form of a Rust source text.
 //!
 //! - `form`: the canonical form of a text.
+//! - `joins`: the canonical form of texts that are joined.
 //! - `outlines`: the names of the items of a text, and where they stand.
 //! - `runs`: runs, from a reader to a writer; `pages` (private): what they write.
 //! - `fault`: why a text has none, and what the program says then.
@@ -15,6 +16,7 @@ mod causes;
 pub mod fault;
 mod file;
 pub mod form;
+pub mod joins;
 pub mod outlines;
 mod pages;
 mod parts;
@@ -24,8 +26,9 @@ mod stands;
 pub use canon_io::watched::Watched;
 pub use fault::{Fault, status, write_fault};
 pub use form::canonical;
+pub use joins::canonical_joined;
 pub use laws_programs::laws;
 pub use outlines::{Row, outline};
 pub use proc_macro2::{LineColumn, MapFull, SourceMap};
-pub use runs::{run, run_limited, run_outline};
+pub use runs::{run, run_joined, run_limited, run_outline};
 pub use syn_error::Error;

@@ -1,11 +1,13 @@
 //! Pages: what a run writes.
 
 ghost use Rattle.canon.specs.Run.{IsOutlinePage, IsPage, IsPageOf, IsRunFault, row_text, rows_text, run_limit};
+ghost use Rattle.canon.specs.JoinedRun.{AreUtf8, IsJoinedFault, IsJoinedPage, IsTooLong, bytes_of};
 ghost use Rattle.rust_leaf.specs.Leaf.{text_of};
-ghost use Rattle.std.specs.Prelude.{◌≡◌, ◌++◌, ◌≤◌, Err, IfErr, IfOk, OnOk, length, string_bytes};
+ghost use Rattle.std.specs.Prelude.{◌≡◌, ◌++◌, ◌≤◌, ◌⊎◌, Err, IfErr, IfOk, OnOk, length, string_bytes};
 
 use crate::fault::Fault;
 use crate::form::canonical;
+use crate::joins::canonical_joined;
 use crate::outlines::{Row, outline};
 use rust_map::SourceMap;
 use std::alloc::{AllocError, Global};
@@ -48,6 +50,39 @@ fn canonical_page(alloc: Global, text: &str) -> Result<String, Fault>
     let mut page = canonical(alloc, text, &mut SourceMap::new(alloc))?;
     page.push('\n')?;
     Ok(page)
+}
+
+/// What is written of joined texts: their canonical form, and a line feed.
+pub(crate) fn joined_page(alloc: Global, texts: &[&[u8]]) -> Result<String, Fault>
+    ensures page { IfOk result (λ page. IsJoinedPage (bytes_of texts.now) (string_bytes page)) }
+    ensures fault { IfErr result (IsJoinedFault (bytes_of texts.now)) }
+    ensures too_long { AreUtf8 (bytes_of texts.now) → IsTooLong (bytes_of texts.now)
+        → (result ≡ Err Fault.MapFull) ⊎ (result ≡ Err Fault.Memory) }
+    ensures reading { result ≡ Err Fault.Reading → ⊥ }
+    ensures writing { result ≡ Err Fault.Writing → ⊥ }
+{
+    let texts = checked(alloc, texts)?;
+    let mut page = canonical_joined(alloc, texts.as_slice(), &mut SourceMap::new(alloc))?;
+    page.push('\n')?;
+    Ok(page)
+}
+
+// The texts that bytes are.
+fn checked<'a>(alloc: Global, all: &[&'a [u8]]) -> Result<Vec<&'a str>, Fault>
+    ensures same { IfOk result (λ texts. bytes_of texts.items ≡ bytes_of all.now) }
+    ensures text { OnOk result (AreUtf8 (bytes_of all.now)) }
+    ensures fault { IfErr result (λ f. (f ≡ Fault.Memory) ⊎ (f ≡ Fault.NotUtf8) × (AreUtf8 (bytes_of all.now) → ⊥)) }
+{
+    let mut texts = Vec::new(alloc);
+    for bytes in all {
+        let Ok(text) = str::from_utf8(bytes) else {
+            return Err(Fault::NotUtf8);
+        };
+        if texts.push(text).is_err() {
+            return Err(Fault::Memory);
+        }
+    }
+    Ok(texts)
 }
 
 // The outline of a text, a line for each row.

@@ -1,14 +1,15 @@
 //! Runs: from a reader to a writer.
 
 ghost use Rattle.canon.specs.Run.{IsOutlinePage, IsPage, IsPageOf, IsRunFault, Writes, WritesFront, run_limit};
+ghost use Rattle.canon.specs.JoinedRun.{AreUtf8, IsJoinedFault, IsJoinedPage, IsTooLong, bytes_of};
 ghost use Rattle.canon_io.specs.Bytes.{ConsumesAtMost};
 ghost use Rattle.canon_io.specs.Watched.{has_failed, inner_of, is_flushed};
 ghost use Rattle.std.specs.Io.KnownBytes.{Appends};
-ghost use Rattle.std.specs.Prelude.{◌≡◌, ◌+◌, ◌≤◌, ◌↔◌, ℕ, Err, IfErr, IfOk, IfSome, IsTrue, OnErr, OnOk, false};
+ghost use Rattle.std.specs.Prelude.{◌≡◌, ◌+◌, ◌≤◌, ◌↔◌, ◌⊎◌, ℕ, Err, IfErr, IfOk, IfSome, IsTrue, OnErr, OnOk, false};
 ghost use Rattle.std.specs.Prelude.{string_bytes, take};
 
 use crate::fault::Fault;
-use crate::pages::{Page, page_of_bytes};
+use crate::pages::{Page, joined_page, page_of_bytes};
 use canon_io::reading::read_within;
 use canon_io::watched::Watched;
 use canon_io::writing::{flush_watched, write_all_watched};
@@ -135,6 +136,46 @@ pub fn run_outline<R: Read, W: Write>(
     ensures flushed { OnOk result (IsTrue (is_flushed writer.new)) }
 {
     let page = page_of(alloc, Page::Outline, LIMIT, reader)?;
+    put_page(writer, page.as_bytes())
+}
+
+/// Writes the canonical form of texts that are joined, and a line feed, and flushes. Interrupted writes and flushes are
+/// tried again.
+///
+/// # Errors
+///
+/// Nothing has been written but for `Writing`, where a front of the output has. `Writing` exactly where the writer
+/// failed in this call; else `NotUtf8` exactly where one of them is no text; else the fault that `canonical_joined`
+/// answers in a map without texts. `Memory` only where a growth was refused.
+pub fn run_joined<W: Write>(
+    alloc: Global,
+    texts: &[&[u8]],
+    writer: &mut Watched<W>,
+) -> Result<(), Fault>
+    requires writer { has_failed writer.old ≡ false }
+
+    // What is written, and what is at fault.
+    ensures page { OnOk result (Writes (IsJoinedPage (bytes_of texts.now)) (W.contents (inner_of writer.old))
+        (W.contents (inner_of writer.new))) }
+    ensures fault { IfErr result (IsJoinedFault (bytes_of texts.now)) }
+    ensures front { result ≡ Err Fault.Writing → WritesFront (IsJoinedPage (bytes_of texts.now))
+        (W.contents (inner_of writer.old)) (W.contents (inner_of writer.new)) }
+
+    // Texts that are too long are refused, unless memory is refused before.
+    ensures too_long { AreUtf8 (bytes_of texts.now) → IsTooLong (bytes_of texts.now)
+        → (result ≡ Err Fault.MapFull) ⊎ (result ≡ Err Fault.Memory) }
+
+    // Nothing is written on a refusal.
+    ensures untouched { IfErr result (λ f. (f ≡ Fault.Writing → ⊥) → writer.new ≡ writer.old) }
+
+    // The writer is at fault exactly where it failed.
+    ensures reading { result ≡ Err Fault.Reading → ⊥ }
+    ensures writing { IsTrue (has_failed writer.new) ↔ (result ≡ Err Fault.Writing) }
+
+    // The last call of the writer was a flush that went well.
+    ensures flushed { OnOk result (IsTrue (is_flushed writer.new)) }
+{
+    let page = joined_page(alloc, texts)?;
     put_page(writer, page.as_bytes())
 }
 
