@@ -103,12 +103,23 @@ sweep "canon, a syntax fault" canon_cli "$work/syntax"
 printf '\xff' > "$work/bytes"
 said=$'canon: not UTF-8\n'
 sweep "canon, no text" canon_cli "$work/bytes"
-want=2 said=$'usage: canon [outline]\n'
+want=2 said=$'usage: canon [outline | join FILE..]\n'
 sweep "canon, an argument" canon_cli "$work/nothing" x
 printf 'struct S;\n/// x\nfn go(){}\nmod m{struct T;}\n' > "$work/names"
 printf 'struct S 1:7\nfn go 3:3\nmod m 4:4\nstruct T 4:13\n' > "$work/names.answer"
 want=0 answer=$work/names.answer said=
 sweep "canon outline" canon_cli "$work/names" outline
+printf '#!/b\nstruct S;//x' > "$work/first"
+printf 'fn f(){}' > "$work/second"
+printf '#!/b\nstruct S ; fn f () { } fn f () { }\n' > "$work/joined.answer"
+answer=$work/joined.answer
+sweep "canon join" canon_cli "$work/nothing" join "$work/first" "$work/second" "$work/second"
+want=1 answer=$work/nothing said=$'canon: text 2 must come first\n'
+sweep "canon join, a shebang in the second file" canon_cli "$work/nothing" join "$work/second" "$work/first"
+printf 'use {::a};\n#[x] mod b;\n\nfn f(){}' > "$work/lines"
+printf 'use { :: a } ; # [x] mod b ; fn f () { }' > "$work/lines.answer"
+want=0 answer=$work/lines.answer said= refusal=
+sweep "the call of joined texts" test_canon_growth "$work/lines" join
 
 want=0 said= refusal=
 answer=../crates/bench_lexer/stdout
