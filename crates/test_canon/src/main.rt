@@ -5,6 +5,7 @@
 //! - `outputs`: the output of a text, or its fault.
 //! - `outlines`: the rows of its outline.
 //! - `programs`: what the program writes and says of it.
+//! - `joins`: what `run_joined` writes and says of texts, and what `canonical_joined` does with the map.
 //!
 //! A row of the others names what is asked, which no text can ask; what is asked answers whether all is as it is to be.
 //!
@@ -20,6 +21,7 @@
 #![tactic(auto)]
 
 mod deep;
+mod joins;
 mod large;
 mod limits;
 mod maps;
@@ -44,6 +46,7 @@ impl Table for Calls {
             "canonical" => outputs::canonical(row.text, page),
             "file" => outputs::of_file(row.text, page),
             "outline" => outlines::outline(row.text, page),
+            _ if row.call.starts_with("joined") => joins::joined(row, page),
             _ if row.call.starts_with("program") => programs::program(row, page),
             _ => put_whether(row, page),
         }
@@ -60,6 +63,7 @@ fn put_whether(row: Row, page: &mut Page) -> Result<(), Unanswered> {
 fn holds(alloc: Global, row: Row) -> Result<bool, Unanswered> {
     match row.call {
         "deep" => deep::holds(alloc, row.text),
+        "joins" => joins::holds(alloc, row.text),
         "large" => large::holds(alloc, row.text),
         "limits" => limits::holds(alloc, row.text),
         "maps" => maps::holds(alloc, row.text),

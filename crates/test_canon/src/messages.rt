@@ -17,6 +17,12 @@ pub fn holds(alloc: Global, name: &str) -> Result<bool, Unanswered> {
 
 fn each_has_its_line(alloc: Global) -> bool {
     is_line(alloc, Fault::NotUtf8, "canon: not UTF-8\n")
+        && is_line(alloc, Fault::NotFirst(1), "canon: text 2 must come first\n")
+        && is_line(
+            alloc,
+            Fault::NotFirst(usize::MAX),
+            "canon: text 18446744073709551616 must come first\n",
+        )
         && is_line(alloc, Fault::MapFull, "canon: source map full\n")
         && is_line(alloc, Fault::Memory, "canon: out of memory\n")
         && is_line(alloc, Fault::Reading, "canon: reading failed\n")

@@ -87,6 +87,7 @@ pub fn word(outcome: &Result<(), Fault>) -> &'static str {
         Err(Fault::Lexical(_)) => "lexical",
         Err(Fault::Syntax { place: None, .. }) => "syntax at the end",
         Err(Fault::Syntax { .. }) => "syntax",
+        Err(Fault::NotFirst(_)) => "not first",
         Err(Fault::MapFull) => "map full",
         Err(Fault::Memory) => "memory",
         Err(Fault::Reading) => "reading",

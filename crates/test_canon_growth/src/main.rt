@@ -1,9 +1,10 @@
-//! The canonical form of the text on standard input, or its outline where the argument is `outline`, in a map that
-//! holds an older text. `tests/refused.sh` runs it once for each allocation, refusing that one: where that was refused
-//! to the call, the older text's spans answer as before, and the call answers once more as it does in a map of its own.
+//! The canonical form of the text on standard input, or its outline where the argument is `outline`, or that of the
+//! texts that stand on its lines where it is `join`, in a map that holds an older text. `tests/refused.sh` runs it once
+//! for each allocation, refusing that one: where that was refused to the call, the older text's spans answer as before,
+//! and the call answers once more as it does in a map of its own.
 #![tactic(auto)]
 
-use canon::{Fault, LineColumn, SourceMap, canonical, outline};
+use canon::{Fault, LineColumn, SourceMap, canonical, canonical_joined, outline};
 use proc_macro2::TokenStream;
 use rust_map::Span;
 use std::alloc::{AllocError, Global};
@@ -16,6 +17,7 @@ use test_support::{Page, Stop, asked, ended, refused, told};
 enum Call {
     Canonical,
     Outline,
+    Join,
 }
 
 // What the call answers: what it writes, a line for each row, or the words of its fault.
@@ -28,6 +30,7 @@ fn answer(
     let answer = match call {
         Call::Canonical => canonical(alloc, text, map),
         Call::Outline => lines(alloc, text, map),
+        Call::Join => joined(alloc, text, map),
     };
     match answer {
         Ok(written) => Ok(written),
@@ -45,6 +48,17 @@ fn lines(alloc: Global, text: &str, map: &mut SourceMap) -> Result<String, Fault
         writeln!(lines, "{kind} {name} {line}:{column}")?;
     }
     Ok(lines)
+}
+
+// The canonical form of what a text's lines are joined to.
+fn joined(alloc: Global, text: &str, map: &mut SourceMap) -> Result<String, Fault> {
+    let mut lines = Vec::new(alloc);
+    for line in text.lines() {
+        if lines.push(line).is_err() {
+            return Err(Fault::Memory);
+        }
+    }
+    canonical_joined(alloc, lines.as_slice(), map)
 }
 
 // The span of the one token of an older text.
@@ -80,10 +94,10 @@ fn answer_behind(alloc: Global, call: Call, text: &str, wanted: &str) -> Result<
 
 fn call_of(rt: &HostRuntime) -> Result<Call, Stop> {
     match env::args(rt) {
-        Ok(args) => Ok(if args.len() > 1 {
-            Call::Outline
-        } else {
-            Call::Canonical
+        Ok(args) => Ok(match args.skip(1).next() {
+            None => Call::Canonical,
+            Some(word) if word.as_str() == "join" => Call::Join,
+            Some(_) => Call::Outline,
         }),
         Err(_) => Err(Stop::Elsewhere),
     }
