@@ -41,6 +41,7 @@ pub(crate) enum Expr {
     MethodCall,
     Tuple,
     Range,
+    Cast,
 }
 
 /// A statement or a block, by what is made of it.
@@ -137,7 +138,7 @@ const RECEIVER: Kind = Kind::Receiver;
 const VARIANT: Kind = Kind::Variant;
 
 // What the rows with each call ask for.
-const CALLS: [(&str, Kind, To); 92] = [
+const CALLS: [(&str, Kind, To); 95] = [
     ("Type shared", TYPE, To::Form(Form::Type)),
     ("Type front", TYPE, To::Form(Form::Type)),
     ("Type last", TYPE, To::Form(Form::Type)),
@@ -163,6 +164,8 @@ const CALLS: [(&str, Kind, To); 92] = [
     ("PathSegment of a module", SEGMENT, To::Form(Form::Segment)),
     ("Bound maybe", Kind::Bound, To::Form(Form::Bound)),
     ("Pat shared", PATTERN, To::Form(Form::Pattern)),
+    ("Pat front", PATTERN, To::Form(Form::Pattern)),
+    ("Pat last", PATTERN, To::Form(Form::Pattern)),
     ("Pat open", PATTERN, To::Form(Form::Pattern)),
     ("Pat closed", PATTERN, To::Form(Form::Pattern)),
     ("Pat closed by dots alone", PATTERN, To::Form(Form::Pattern)),
@@ -199,6 +202,7 @@ const CALLS: [(&str, Kind, To); 92] = [
         EXPRESSION,
         To::Expr(Expr::Range),
     ),
+    ("Expr as it is", EXPRESSION, To::Expr(Expr::Cast)),
     ("FieldValue short", FIELD_VALUE, To::Part(Part::FieldValue)),
     (
         "FieldValue without colon",

@@ -3,7 +3,7 @@
 use crate::asked;
 use crate::change::{By, Change, Unmade, held, limits, mark, remade, remade_always, some_of};
 use syn::{
-    Arena, Arm, BinOp, Expr, ExprBinary, ExprMethodCall, ExprRange, ExprTuple, ExprUnary,
+    Arena, Arm, BinOp, Expr, ExprBinary, ExprCast, ExprMethodCall, ExprRange, ExprTuple, ExprUnary,
     FieldValue, Position, Sign, Tree, UnOp,
 };
 use syn_made::expr::whole::expression;
@@ -89,6 +89,13 @@ impl<'a> Change<'a> for ExprRange<'a, 'a> {
     }
 }
 
+// A cast, as it is.
+impl<'a> Change<'a> for ExprCast<'a, 'a> {
+    fn changed(_by: By<'_, 'a>, tree: &'a Tree<'a>) -> Option<ExprCast<'a, 'a>> {
+        ExprCast::of(tree)
+    }
+}
+
 // A field's value as its member alone, or without its `:`.
 impl<'a> Change<'a> for FieldValue<'a, 'a> {
     fn changed(by: By<'_, 'a>, tree: &'a Tree<'a>) -> Option<FieldValue<'a, 'a>> {
@@ -139,5 +146,6 @@ pub(crate) fn changed<'a>(
         asked::Expr::MethodCall => remade_always::<ExprMethodCall>(arena, by, found.tree),
         asked::Expr::Tuple => remade::<ExprTuple>(arena, by, found.tree),
         asked::Expr::Range => remade::<ExprRange>(arena, by, found.tree),
+        asked::Expr::Cast => remade_always::<ExprCast>(arena, by, found.tree),
     }
 }

@@ -1,7 +1,7 @@
 //! Changes of patterns.
 
-use crate::change::{By, Change, Unmade, limits, tried};
-use syn::{Arena, Pat, PatRange, PatReference, RangeEnd, Tree};
+use crate::change::{By, Change, Unmade, limits, some_of, tried};
+use syn::{Arena, Pat, PatRange, PatReference, PatSlice, RangeEnd, Tree};
 use syn_wrapped::patterns::pattern;
 
 // A range without its end, or with its end in it.
@@ -15,7 +15,7 @@ fn changed_range<'t, 'a>(change: &str, found: PatRange<'t, 'a>) -> PatRange<'t, 
     }
 }
 
-// A reference without its `mut`, or a range with another end.
+// A reference without its `mut`, a range with another end, or some of a slice's patterns.
 impl<'a> Change<'a> for Pat<'a, 'a> {
     fn changed(by: By<'_, 'a>, tree: &'a Tree<'a>) -> Option<Pat<'a, 'a>> {
         match Pat::of(tree)? {
@@ -24,6 +24,10 @@ impl<'a> Change<'a> for Pat<'a, 'a> {
                 ..found
             })),
             Pat::Range(found) => Some(Pat::Range(changed_range(by.change, found))),
+            Pat::Slice(found) => Some(Pat::Slice(PatSlice {
+                elems: some_of(by.change, found.elems),
+                ..found
+            })),
             _ => None,
         }
     }

@@ -2,8 +2,8 @@
 
 use syn::{Kind, Place, Plus, Position, Style};
 
-// Each name that rows have for a kind, and that kind.
-const KINDS: [(&str, Kind); 71] = [
+/// Each name that rows have for a kind, and that kind.
+pub(crate) const KINDS: [(&str, Kind); 71] = [
     // An expression, a statement, a pattern and what stands in them.
     ("Expr", Kind::Expression(Position::Plain)),
     ("Expr-condition", Kind::Expression(Position::InCondition)),

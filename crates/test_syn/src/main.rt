@@ -10,7 +10,17 @@
 //! what is answered for the table of forms, of which each is put into each.
 //!
 //! A row with `Stream` is a file: answered are the tokens of the stream that it is written as, each with `@` and the
-//! column (from 0) in which it begins behind it, if it stands in the text.
+//! column (from 0) in which it begins behind it, if it stands in the text. With `Normal` they are those of the tree
+//! that is its normal form, and with `error` those by which the compiler says the word `said` of the row's tokens.
+//!
+//! A row with `fault` and a kind is answered by what is said where no form of the kind stands, and the column of the
+//! token of which it is said; or by the print of the form. That is asked of the whole text, then of a reader and of a
+//! stream, which read what stands first: what these answer otherwise stands behind it. A row with `single` and a form
+//! of which several are one kind is answered so too, and one with `enter` and a delimiter.
+//!
+//! In a row with `among` and a kind an invisible group stands between `‹` and `›`, and `$` is an apostrophe that is
+//! joint. It is answered as one with `fault`. A row with `all` is written so too: answered are the kinds, and the forms
+//! of which several are one kind, as which all of it is read.
 //!
 //! A row with `Chain` is an expression of 100,000 turns (what stands first, a turn, what stands last, and that with
 //! other spaces, with `…` between them): answered is whether it is written as it stands, in its normal form and as it
@@ -22,22 +32,28 @@
 //! - `neighbours`: each row's form compared with that of the row above.
 //! - `built`: expressions that are built by hand.
 //! - `written`: how a tree is written.
-//! - `streams`: where the tokens stand of the stream that a file is written as.
+//! - `streams`: where the tokens stand of the stream that a file is written as, and of an error.
+//! - `faults`: what is said where a form is wanted; `wanted`: where one form of several is, or a group.
+//! - `hidden`: streams with invisible groups.
 //! - `chains`: chains that are long.
 #![tactic(auto)]
 
 mod built;
 mod chains;
+mod faults;
+mod hidden;
 mod kinds;
 mod neighbours;
 mod reading;
 mod streams;
+mod wanted;
 mod written;
 
 use crate::built::position_of;
 use crate::kinds::kind_of;
 use crate::neighbours::put_again;
 use crate::reading::{Found, Part, read};
+use crate::streams::Written;
 use std::alloc::Global;
 use syn::Kind;
 use test_support::{Page, Row, Table, Unanswered, answer_lines, asked, told};
@@ -47,10 +63,32 @@ struct Rows;
 impl Table for Rows {
     fn answer(&self, row: Row, page: &mut Page) -> Result<(), Unanswered> {
         match row.call {
-            "Stream" => streams::put_row(row.text, page),
+            "Stream" => streams::put_row(Written::Read, row.text, page),
+            "Normal" => streams::put_row(Written::Normal, row.text, page),
+            "error" => streams::put_error(row.text, page),
+            "all" => hidden::put_all(row.text, page),
             "Chain" => chains::put_row(row.text, page),
-            _ => put_called(row, page),
+            _ => put_asked(row, page),
         }
+    }
+}
+
+// Puts what is answered for a row whose call has two words, or for another one.
+fn put_asked(row: Row, page: &mut Page) -> Result<(), Unanswered> {
+    match row.call.split_once(' ') {
+        Some(("fault", kind)) => faults::put_row(named(kind)?, row.text, page),
+        Some(("among", kind)) => hidden::put_row(named(kind)?, row.text, page),
+        Some(("single", form)) => wanted::put_row(form, row.text, page),
+        Some(("enter", delimiter)) => wanted::put_enter(delimiter, row.text, page),
+        _ => put_called(row, page),
+    }
+}
+
+// The kind that a row has to name.
+fn named(name: &str) -> Result<Kind, Unanswered> {
+    match kind_of(name) {
+        Some(kind) => Ok(kind),
+        None => Err(Unanswered::NoRow),
     }
 }
 

@@ -33,7 +33,12 @@ pub(crate) enum Part {
 
 /// The tokens of a text, if it is one of tokens.
 pub(crate) fn lexed(alloc: Global, text: &str) -> Option<TokenStream> {
-    match TokenStream::from_str(alloc, text, &mut SourceMap::new(alloc)) {
+    lexed_in(alloc, text, &mut SourceMap::new(alloc))
+}
+
+/// The tokens of a text that is put into a map, if it is one of tokens.
+pub(crate) fn lexed_in(alloc: Global, text: &str, map: &mut SourceMap) -> Option<TokenStream> {
+    match TokenStream::from_str(alloc, text, map) {
         Ok(stream) => Some(stream),
         Err(_) => None,
     }

@@ -3,6 +3,7 @@
 use crate::written::{Writing, put_print};
 use proc_macro2::Spacing;
 use reader_tree::made;
+use reader_tree::placed_spacing::PlacedSpacing;
 use std::alloc::AllocError;
 use syn::{Arena, Element, Form, Kind, Tree};
 use test_support::{Page, Unanswered};
@@ -248,7 +249,8 @@ fn elements_anew<'a>(elements: &[Element<'a>], by: &mut Maker<'_, 'a>) -> Vec<El
     let mut all = Vec::new(by.arena.alloc());
     for element in elements {
         let tree = anew(&element.tree, by);
-        let spacing = by.spacing(element.spacing);
+        let how = by.spacing(element.spacing.spacing());
+        let spacing = PlacedSpacing::new(how, element.spacing.span());
         by.is_cut |= all.push(Element { tree, spacing }).is_err();
     }
     all
