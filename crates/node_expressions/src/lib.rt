@@ -1,0 +1,40 @@
+//! The structs of expressions and of statements.
+//!
+//! An expression inside an expression is an `E`. So is a type, a pattern or an item, which the `E` holds. The
+//! statements of a block are exactly that.
+//!
+//! - `atom`: expressions that are whole by themselves.
+//! - `call`: calls, and what else stands behind an operand.
+//! - `operator`: operators between two operands or in front of one.
+//! - `block`: blocks, and what runs them.
+//! - `branch`: expressions that choose.
+//! - `closure`: closures.
+//! - `jump`: expressions that leave what runs.
+//! - `statement`: statements.
+#![tactic(auto)]
+
+pub mod atom;
+pub mod block;
+pub mod branch;
+pub mod call;
+pub mod closure;
+pub mod jump;
+pub mod operator;
+pub mod statement;
+
+pub use atom::{
+    ExprArray, ExprGroup, ExprInfer, ExprLit, ExprMacro, ExprParen, ExprPath, ExprRepeat,
+    ExprStruct, ExprTuple, FieldValue,
+};
+pub use block::{
+    Block, BlockModifiers, ExprAsync, ExprBlock, ExprConst, ExprForLoop, ExprLoop, ExprTryBlock,
+    ExprUnsafe, ExprWhile, Label,
+};
+pub use branch::{Arm, ExprIf, ExprLet, ExprMatch};
+pub use call::{ExprAwait, ExprCall, ExprField, ExprIndex, ExprMethodCall, ExprTry};
+pub use closure::{ClosureModifiers, ExprClosure};
+pub use jump::{ExprBreak, ExprContinue, ExprReturn, ExprYield};
+pub use operator::{
+    ExprAssign, ExprBinary, ExprCast, ExprRange, ExprRawAddr, ExprReference, ExprUnary,
+};
+pub use statement::{Local, LocalInit, LocalModifiers, Stmt, StmtMacro};

@@ -1,0 +1,33 @@
+//! Parameters of items that stand for lifetimes, types and constants, and the conditions on them.
+//!
+//! A type or an expression in them is an `E`, which holds it.
+//!
+//! - `convert` (private): structs as the enums that hold them.
+//! - `param`: the parameters.
+//! - `clause`: the conditions behind `where`.
+//! - `visibility`: who may name an item.
+#![tactic(auto)]
+
+pub mod clause;
+mod convert;
+pub mod param;
+pub mod visibility;
+
+pub use clause::{PredicateLifetime, PredicateType, WhereClause, WherePredicate};
+pub use param::{ConstParam, GenericParam, TypeParam};
+use syn_kinds::token;
+use syn_lists::Punctuated;
+pub use visibility::{VisRestricted, Visibility};
+
+/// The parameters of an item, and the conditions on them: `<'a, T: Clone>` and `where T: 'a`.
+#[derive(Drop)]
+pub struct Generics<E> {
+    /// `<`, if it is there.
+    pub lt_token: Option<token::Lt>,
+    /// The parameters, with commas.
+    pub params: Punctuated<GenericParam<E>, token::Comma>,
+    /// `>`, if it is there.
+    pub gt_token: Option<token::Gt>,
+    /// The conditions, if there are any.
+    pub where_clause: Option<WhereClause<E>>,
+}

@@ -1,0 +1,55 @@
+//! The structs of items, and what they consist of.
+//!
+//! A type, an expression or a block that is a field of an item or of a field is exactly that. In a signature a type or
+//! a pattern is an `E`, which holds it, and so is an item inside a module.
+//!
+//! - `convert` (private): structs as the enums that hold them.
+//! - `data`: structs, enums and unions, and their fields.
+//! - `derive`: what a derive reads.
+//! - `function`: functions, and what may stand for one in a trait.
+//! - `value`: constants and statics.
+//! - `alias`: types with another name.
+//! - `module`: modules, foreign blocks and crates.
+//! - `implement`: impls.
+//! - `traits`: traits.
+//! - `import`: imports.
+//! - `mac`: calls of macros as items.
+//! - `modifiers`: what may stand in front of an item.
+//! - `file`: files.
+#![tactic(auto)]
+
+pub mod alias;
+mod convert;
+pub mod data;
+pub mod derive;
+pub mod file;
+pub mod function;
+pub mod implement;
+pub mod import;
+pub mod mac;
+pub mod modifiers;
+pub mod module;
+pub mod traits;
+pub mod value;
+
+pub use alias::{ItemType, WhereClausePlacement};
+pub use data::{
+    Field, FieldModifiers, Fields, FieldsNamed, FieldsUnnamed, ItemEnum, ItemStruct, ItemUnion,
+    Variant,
+};
+pub use derive::{Data, DataEnum, DataStruct, DataUnion, DeriveInput};
+pub use file::Frontmatter;
+pub use function::{FnArg, ItemFn, Receiver, ReceiverKind, Safety, Signature, Variadic};
+pub use implement::{ImplItem, ImplItemConst, ImplItemFn, ImplItemMacro, ImplItemType, ItemImpl};
+pub use import::{ItemUse, UseGlob, UseGroup, UseName, UsePath, UseRename, UseTree};
+pub use mac::ItemMacro;
+pub use modifiers::{ConstModifiers, FnModifiers, ImplModifiers, TraitModifiers, TypeModifiers};
+pub use module::{
+    ForeignItem, ForeignItemFn, ForeignItemMacro, ForeignItemStatic, ForeignItemType,
+    ItemExternCrate, ItemForeignMod, ItemMod,
+};
+pub use traits::{
+    ItemTrait, ItemTraitAlias, TraitItem, TraitItemConst, TraitItemFn, TraitItemMacro,
+    TraitItemType,
+};
+pub use value::{ItemConst, ItemStatic, StaticMutability};

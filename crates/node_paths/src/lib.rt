@@ -1,0 +1,27 @@
+//! Attributes, macros, paths with their arguments, and bounds.
+//!
+//! Each type that holds an expression, a type or a pattern is generic over `E`, the type that stands for all three.
+//! It stands for what an attribute holds, too, so that the many attributes of a tree stay small.
+//!
+//! - `convert` (private): structs as the enums that hold them.
+//! - `attribute`: attributes and what they hold.
+//! - `mac`: calls of macros.
+//! - `path`: paths, their segments and arguments.
+//! - `bound`: bounds, and the lifetimes that they bind.
+#![tactic(auto)]
+
+pub mod attribute;
+pub mod bound;
+mod convert;
+pub mod mac;
+pub mod path;
+
+pub use attribute::{AttrStyle, Attribute, Meta, MetaList, MetaNameValue};
+pub use bound::{
+    Abi, BoundLifetimes, LifetimeParam, TraitBound, TraitBoundModifier, TypeParamBound,
+};
+pub use mac::{Macro, MacroDelimiter};
+pub use path::{
+    AngleBracketedGenericArguments, AssocType, GenericArgument, ParenthesizedGenericArguments,
+    Path, PathArguments, PathSegment, QSelf, ReturnType,
+};

@@ -1,0 +1,12 @@
+pub mod Words
+pub mod Paths
+pub mod Types
+pub mod Generics
+pub mod Patterns
+pub mod Statements
+pub mod Expressions
+pub mod Data
+pub mod Functions
+pub mod Items
+pub mod Members
+pub mod Imports
