@@ -1,0 +1,3 @@
+pub mod Whats
+pub mod Paths
+pub mod Exprs

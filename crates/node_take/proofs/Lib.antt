@@ -1,0 +1,5 @@
+pub mod Takes
+pub mod Seqs
+pub mod Choices
+pub mod Lists
+pub mod Forms

@@ -1,0 +1,4 @@
+pub mod Leaves
+pub mod Lists
+pub mod Literals
+pub mod Raws

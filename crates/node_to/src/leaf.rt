@@ -1,0 +1,135 @@
+//! Tokens as trees.
+
+ghost use Rattle.node_words.specs.Words as words;
+ghost use Rattle.reader_table.specs.Words.{sign_text};
+ghost use Rattle.std.specs.Prelude.{◌≡◌, IfOk};
+ghost use Rattle.syn_kinds.specs.Table.{marks};
+
+use crate::to_tree::ToTree;
+use reader_table::word::Sign;
+use reader_tree::arena::Arena;
+use reader_tree::made;
+use reader_tree::tree::Tree;
+use rust_leaf::ident::Ident;
+use rust_leaf::punct::Spacing;
+use rust_map::span::Span;
+use std::alloc::AllocError;
+use syn_kinds::keyword::Keyword;
+use syn_kinds::lifetime::Lifetime;
+use syn_kinds::punctuation::Punctuation;
+use syn_kinds::underscore::Underscore;
+
+// Where the first mark of a punctuation stands.
+fn first_place<const K: usize, const N: usize>(token: &Punctuation<K, N>) -> Span {
+    if N == 0 {
+        Span::call_site()
+    } else {
+        token.spans[0]
+    }
+}
+
+/// A punctuation, by its sign. It stands where its first mark does.
+///
+/// # Errors
+///
+/// None.
+#[tactic(auto, using(crate::proofs::Leaves::same_marks))]
+pub fn sign<'a, const K: usize, const N: usize>(
+    sign: Sign,
+    token: &Punctuation<K, N>,
+) -> Result<Tree<'a>, AllocError>
+    requires { sign_text sign ≡ marks K N }
+    ensures { IfOk result (λ x. x ≡ words.mark token.now) }
+{
+    Ok(made::mark(sign, Spacing::Alone, first_place(token)))
+}
+
+/// The punctuation that stands there, if one does.
+///
+/// # Errors
+///
+/// Where there is no memory for it.
+pub fn optional_sign<'a, const K: usize, const N: usize>(
+    arena: &'a Arena,
+    mark: Sign,
+    held: &Option<Punctuation<K, N>>,
+) -> Result<Tree<'a>, AllocError>
+    requires { sign_text mark ≡ marks K N }
+    ensures { IfOk result (λ x. x ≡ words.optional words.mark held.now) }
+{
+    match held {
+        Some(token) => made::first(arena, sign(mark, token)?),
+        None => made::second(arena, made::nil()),
+    }
+}
+
+/// A punctuation that is filled in, at the call site, where it is missing.
+///
+/// # Errors
+///
+/// None.
+#[tactic(auto, using(crate::proofs::Leaves::same_marks))]
+pub fn sign_or<'a, const K: usize, const N: usize>(
+    mark: Sign,
+    held: &Option<Punctuation<K, N>>,
+) -> Result<Tree<'a>, AllocError>
+    requires { sign_text mark ≡ marks K N }
+    ensures { IfOk result (λ x. x ≡ words.mark_or held.now) }
+{
+    let span = match held {
+        Some(token) => first_place(token),
+        None => Span::call_site(),
+    };
+    Ok(made::mark(mark, Spacing::Alone, span))
+}
+
+/// What stands there, if anything does.
+///
+/// # Errors
+///
+/// Where there is no memory for it.
+pub fn optional<'a, T: ToTree>(
+    arena: &'a Arena,
+    held: &'a Option<T>,
+) -> Result<Tree<'a>, AllocError>
+    ensures { IfOk result (λ x. x ≡ words.optional T.tree held.now) }
+{
+    match held {
+        Some(inner) => made::first(arena, inner.to_tree(arena)?),
+        None => made::second(arena, made::nil()),
+    }
+}
+
+impl<const K: usize> ToTree for Keyword<K> {
+    ghost tree = { λ w. words.keyword w };
+
+    fn to_tree<'a>(&'a self, arena: &'a Arena) -> Result<Tree<'a>, AllocError> {
+        let ident = self.to_ident(arena.alloc())?;
+        Ok(made::word(arena.put(ident)?))
+    }
+}
+
+impl ToTree for Underscore {
+    ghost tree = { words.underscore };
+
+    fn to_tree<'a>(&'a self, arena: &'a Arena) -> Result<Tree<'a>, AllocError> {
+        let ident = self.to_ident(arena.alloc())?;
+        Ok(made::word(arena.put(ident)?))
+    }
+}
+
+impl ToTree for Ident {
+    ghost tree = { words.name };
+
+    fn to_tree<'a>(&'a self, _arena: &'a Arena) -> Result<Tree<'a>, AllocError> {
+        Ok(made::word(self))
+    }
+}
+
+impl ToTree for Lifetime {
+    ghost tree = { words.lifetime };
+
+    fn to_tree<'a>(&'a self, arena: &'a Arena) -> Result<Tree<'a>, AllocError> {
+        made::lifetime(arena, self.apostrophe, &self.ident)
+    }
+}
