@@ -18,26 +18,22 @@ pub use Rattle.rust_lex.specs.declared.front.Front.TheVariants.{White as white, 
 pub use Rattle.rust_lex.specs.declared.front.Front.TheVariants.{Quote as quote, Tick as tick, Digit as digit}
 pub use Rattle.rust_lex.specs.declared.front.Front.TheVariants.{First as first, Mark as mark, Other as other}
 
-unfoldable pub front_of : ℕ → Front
-front_of c = if is_first c then first else
-    (if is_white c then white else (if is_mark_but_tick c then mark else (if is_digit c then digit else
-    (if c == 34 then quote else
-    (if c == 39 then tick else
-    (if c == 40 then opens Parenthesis else
-    (if c == 41 then closes Parenthesis else (if c == 91 then opens Bracket else
-    (if c == 93 then closes Bracket else
-    (if c == 123 then opens Brace else (if c == 125 then closes Brace else other)))))))))))
+-- a quote, a tick, or a delimiter: " ' ( ) [ ] { }
+abbrev pub by_itself : ℕ → Front
+by_itself c = if c == 34 then quote else (if c == 39 then tick else
+    (if c == 40 then opens Parenthesis else (if c == 41 then closes Parenthesis else
+    (if c == 91 then opens Bracket else (if c == 93 then closes Bracket else
+    (if c == 123 then opens Brace else (if c == 125 then closes Brace else other)))))))
 
--- what a letter of the table of fronts stands for
+-- a letter or _ , a white character, a mark, or a digit, each by its class; else what that character is by itself
+unfoldable pub front_of : ℕ → Front
+front_of c = if is_first c then first else (if is_white c then white else
+    (if is_mark_but_tick c then mark else (if is_digit c then digit else by_itself c)))
+
+-- What a letter of the table of fronts stands for: a is any letter, + any mark, 0 any digit, w white.
 abbrev pub front_by : ℕ → Front
 front_by c = if c == 97 then first else
-    (if c == 43 then mark else (if c == 48 then digit else (if c == 119 then white else
-    (if c == 34 then quote else
-    (if c == 39 then tick else
-    (if c == 40 then opens Parenthesis else
-    (if c == 41 then closes Parenthesis else (if c == 91 then opens Bracket else
-    (if c == 93 then closes Bracket else
-    (if c == 123 then opens Brace else (if c == 125 then closes Brace else other)))))))))))
+    (if c == 43 then mark else (if c == 48 then digit else (if c == 119 then white else by_itself c)))
 
 -- a piece, and what stands behind it
 pub data Scanned : Type 0 where
