@@ -1,6 +1,6 @@
-mod Laid
-mod AllSeen
-mod Putting
+pub mod Laid
+pub mod AllSeen
+pub mod Putting
 mod Unsigned
 mod Standing
 mod Skipping
