@@ -84,7 +84,8 @@ infix_kind ExprCast p ts b h = absurd (false≢true h)
 infix_kind _ p ts b h = absurd (false≢true b)
 
 -- a form with an operand behind it takes postfix forms behind that
-pub takes_top : (k : Kind) (p : Position) (ts : List Token) → has_right p k ts ≡ true → takes (level k) (level ExprStruct)
+pub takes_top : (k : Kind) (p : Position) (ts : List Token) → has_right p k ts ≡ true
+    → takes (level k) (level ExprStruct)
     ≡ true
 unfolding has_right level takes
 takes_top ExprAttributed p ts h = refl
@@ -222,7 +223,8 @@ or_true : (b : Bool) → (not b || true) ≡ true
 or_true true = refl
 or_true false = refl
 
-pub dot_left : (p : Position) (k : Kind) (y m : Tree) → is_dot k ≡ true → takes_postfix m ≡ true → is_ended ExprField [] m
+pub dot_left : (p : Position) (k : Kind) (y m : Tree) → is_dot k ≡ true → takes_postfix m ≡ true
+    → is_ended ExprField [] m
     ≡ true → stays_left p k y m ≡ true
 unfolding level chains
 dot_left p k y m i t e =
@@ -230,7 +232,8 @@ dot_left p k y m i t e =
     (left ExprAwait) k i (dot_ended k (flat y) m i ∙ e)
   where
     left : (j : Kind) → is_ended j (flat y) m ≡ true
-        → (false || ((takes_postfix m && (not (ends_there p m) || true)) && (not false && is_ended j (flat y) m))) ≡ true
+        → (false || ((takes_postfix m && (not (ends_there p m) || true)) && (not false && is_ended j (flat y) m)))
+        ≡ true
     left j = left_true false (takes_postfix m) (ends_there p m) true false (is_ended j (flat y) m) t
         (or_true (ends_there p m)) refl
 
@@ -245,7 +248,8 @@ pub dot_takes : (p : Position) (k : Kind) (ts : List Token) → is_dot k ≡ tru
 unfolding may_lack
 dot_takes p k ts i = each_dot (λ j. takes_what_follows p j ts ≡ false) refl refl refl k i
 
-pub dot_postfix : (p : Position) (k : Kind) (l : Tree) → is_dot k ≡ true → stands_left p l k ≡ true → takes_postfix l ≡ true
+pub dot_postfix : (p : Position) (k : Kind) (l : Tree) → is_dot k ≡ true → stands_left p l k ≡ true → takes_postfix l
+    ≡ true
 unfolding level stands_left
 dot_postfix p k l i m =
     each_dot (λ j. stands_left p l j ≡ true → takes_postfix l ≡ true) (λ n. (and_true (takes_postfix l) _ n).0)
@@ -264,7 +268,8 @@ pub struct_undotted : (k : Kind) → is_struct k ≡ true → is_dot k ≡ false
 struct_undotted ExprStruct s = refl
 struct_undotted _ s = absurd (false≢true s)
 
-pub infix_no_struct : (k : Kind) → is_infix k ≡ true → (is_struct k ≡ false) × ((x : Tree) → is_attributed_range k x ≡ false)
+pub infix_no_struct : (k : Kind) → is_infix k ≡ true → (is_struct k ≡ false)
+    × ((x : Tree) → is_attributed_range k x ≡ false)
 infix_no_struct ExprStruct i = absurd (false≢true i)
 infix_no_struct ExprAttributed i = absurd (false≢true i)
 infix_no_struct _ i = (refl, λ x. refl)

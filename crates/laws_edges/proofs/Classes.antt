@@ -4,7 +4,8 @@ use Rattle.std.specs.Prelude.{Bool, true, false, not, ◌&&◌, ◌||◌, nat_eq
 use Rattle.std.proofs.lemmas.Bool.{false≢true}
 use Rattle.proc_macro2.specs.Token.{Token}
 use Rattle.syn_grammar.specs.Kind.{Kind, Position, ExprStruct, ExprCall, ExprMethodCall, ExprField, ExprAwait}
-use Rattle.syn_grammar.specs.Kind.{ExprIndex, ExprTry, ExprCast, ExprAttributed, ExprUnary, ExprRawAddr, ExprReference, ExprLet}
+use Rattle.syn_grammar.specs.Kind.{ExprIndex, ExprTry, ExprCast, ExprAttributed, ExprUnary, ExprRawAddr, ExprReference}
+use Rattle.syn_grammar.specs.Kind.{ExprLet}
 use Rattle.syn_grammar.specs.Kind.{ExprBreak, ExprReturn, ExprYield, ExprClosure, ExprRange, ExprRangeClosed}
 use Rattle.syn_grammar.specs.Kind.{ExprAssign, ExprOr, ExprAnd, ExprCompare, ExprBitOr, ExprBitXor, ExprBitAnd}
 use Rattle.syn_grammar.specs.Kind.{ExprShift, ExprSum, ExprProduct, ExprPath}

@@ -180,6 +180,7 @@ module _ (u v w y z : Tree) where
 lesser : reads (tower Plain 0)
     (Literal (codes "1") ∷ Ident (codes "as") ∷ Ident (codes "u8") ∷ Punct 60 Apart ∷ Literal (codes "2") ∷ [])
     ≡ Refused
-unfolding reads table top forms rank front back has_right level inside stands_left chains takes word_at literal_at mark_at
+unfolding reads table top forms rank front back has_right level inside stands_left chains takes word_at literal_at
+    mark_at
     lifetime_at group_at is_bool is_name is_plain_name is_path_keyword is_reserved
 lesser = refl

@@ -427,7 +427,8 @@ node_leads k x r d h b l u v f = go (strong k) (worded k) refl refl l
   where
     go : (i j : Bool) → strong k ≡ i → worded k ≡ j → (i || j) || (not b && weak k) ≡ true
         → Same (flat x ++ u) (Node k x) v
-    go true j e w m = stay_node k x (ap (λ c. c || weak k) e) (flat x ++ u) v (h true (strong_lead k e) u v (λ i. absurd (false≢true (sym i))))
+    go true j e w m = stay_node k x (ap (λ c. c || weak k) e) (flat x ++ u) v
+        (h true (strong_lead k e) u v (λ i. absurd (false≢true (sym i))))
     go false true e w m = worded_node k x r w d u v
     go false false e w m =
         let n = and_true (not b) (weak k) m in

@@ -141,7 +141,8 @@ root_macro rest c cs i z ts e f n =
       n,
     )
 
-pub path_macro : (x : Tree) (vs : List Token) → Fits x (table (Path InModule)) → Macro vs (flat x ++ Punct 33 Apart ∷ vs)
+pub path_macro : (x : Tree) (vs : List Token) → Fits x (table (Path InModule))
+    → Macro vs (flat x ++ Punct 33 Apart ∷ vs)
 unfolding table Macro
 path_macro (Pair (First (AMark c cs i)) (Node k z)) vs f =
     root_macro vs c cs i z _ f.0.1.0 f.0.1.1 (segments_called z vs (subst (λ j. Fits z (table j)) f.1.0 f.1.3))

@@ -31,12 +31,14 @@ use Rattle.laws_reread_kinds.proofs.Fits.{Fits, back}
 use Rattle.laws_reread_kinds.proofs.ForeignItems.{foreign_alias, foreign_function, foreign_static, safety_words}
 use Rattle.laws_reread_kinds.proofs.Impls.{lacks_part}
 use Rattle.laws_reread_kinds.proofs.ItemPlaces.{has_none}
-use Rattle.laws_reread_kinds.proofs.ItemVerdicts.{EachOf, LawOf, SameItem, form_same, law_alias, law_block, law_constant}
+use Rattle.laws_reread_kinds.proofs.ItemVerdicts.{EachOf, LawOf, SameItem, form_same, law_alias, law_block}
+use Rattle.laws_reread_kinds.proofs.ItemVerdicts.{law_constant}
 use Rattle.laws_reread_kinds.proofs.ItemVerdicts.{law_crate, law_enum, law_function, law_impl, law_module, law_static}
 use Rattle.laws_reread_kinds.proofs.ItemVerdicts.{law_struct, law_union, law_use, same_has}
 use Rattle.laws_reread_kinds.proofs.Members.{SameMember, default_class, impl_alias, impl_constant, impl_function}
 use Rattle.laws_reread_kinds.proofs.Members.{maybe_default, trait_alias, trait_constant, trait_function}
-use Rattle.laws_reread_kinds.proofs.Parts.{Found, Unseen, found_called, found_optional, found_ref, found_text, found_words}
+use Rattle.laws_reread_kinds.proofs.Parts.{Found, Unseen, found_called, found_optional, found_ref, found_text}
+use Rattle.laws_reread_kinds.proofs.Parts.{found_words}
 use Rattle.laws_reread_kinds.proofs.Parts.{maybe_called, maybe_none, maybe_ref, maybe_seq}
 use Rattle.laws_reread_kinds.proofs.Printed.{EntryLaw, is_placed, is_simple, simple_law}
 use Rattle.laws_reread_kinds.proofs.Starts.{starts}

@@ -25,8 +25,10 @@ use Rattle.laws_binding.proofs.Levels.{or_false}
 use Rattle.laws_binding.proofs.Parted.{bound}
 use Rattle.laws_binding.proofs.Sights.{struct_seen}
 use Rattle.laws_binding.proofs.Stays.{Stays, begun_right}
-use Rattle.laws_reread_expressions.specs.Behind.{no_operand, is_attributed, BeforeOperand, AtEnd, BehindOperand, MayFollow}
-use Rattle.laws_reread_expressions.specs.Formed.{IsFront, IsBehind, may_lack_operand, may_have_operand, is_attributed_form}
+use Rattle.laws_reread_expressions.specs.Behind.{no_operand, is_attributed, BeforeOperand, AtEnd, BehindOperand}
+use Rattle.laws_reread_expressions.specs.Behind.{MayFollow}
+use Rattle.laws_reread_expressions.specs.Formed.{IsFront, IsBehind, may_lack_operand, may_have_operand}
+use Rattle.laws_reread_expressions.specs.Formed.{is_attributed_form}
 use Rattle.laws_reread_expressions.proofs.Begins.{Starts, own_starts, starts_more, begun_behind, paren_operand}
 use Rattle.laws_reread_expressions.proofs.Ends.{LastEnds, Turns, back_turns, infix_turns_of, beside_turn, last_ended}
 use Rattle.laws_reread_expressions.proofs.Near.{Beside, beside_inside, no_struct, ends_here, back_meets, infix_meets}

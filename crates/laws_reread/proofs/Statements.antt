@@ -10,11 +10,13 @@ use Rattle.proc_macro2.specs.Token.{Token, Opens, Closes, Ident, Literal, Punct}
 use Rattle.proc_macro2.specs.declared.delimiter.Delimiter.TheVariants.{Brace}
 use Rattle.rust_leaf.specs.declared.punct.Spacing.{Spacing}
 use Rattle.rust_leaf.specs.declared.punct.Spacing.TheVariants.{Alone as Apart, Joint}
-use Rattle.syn_grammar.specs.Kind.{Kind, AMacro, AStatement, Delimited, Expression, ExprAttributed, ExprClosure, ExprGroup}
+use Rattle.syn_grammar.specs.Kind.{Kind, AMacro, AStatement, Delimited, Expression, ExprAttributed, ExprClosure}
+use Rattle.syn_grammar.specs.Kind.{ExprGroup}
 use Rattle.syn_grammar.specs.Kind.{ExprMacro, ExprPath}
 use Rattle.syn_grammar.specs.Kind.{ExprTypedClosure, ExprUnsafe, InStatement, OuterAttributes}
 use Rattle.syn_grammar.specs.Name.{the_semicolon}
-use Rattle.syn_grammar.specs.Words.{ends_in_dot, is_among, is_bool, is_ident, is_name, is_path_keyword, is_plain_name, is_reserved}
+use Rattle.syn_grammar.specs.Words.{ends_in_dot, is_among, is_bool, is_ident, is_name, is_path_keyword, is_plain_name}
+use Rattle.syn_grammar.specs.Words.{is_reserved}
 use Rattle.syn_grammar.specs.Words.{same_text}
 use Rattle.syn_grammar.specs.Tree.{Tree, AMark, AWord, Alone, Back, Called, First, Front, Group, Infix, Nil, Node, Pair}
 use Rattle.syn_grammar.specs.Tree.{Second, Whole, marks as signs, flat}

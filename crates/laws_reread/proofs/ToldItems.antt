@@ -236,7 +236,8 @@ visible_off : (v : Tree) (r : List Token) → Derives v (table Visibility) r →
     → (not (is_there v) ≡ true) × (flat v ≡ [])
 unfolding table is_name is_path_keyword is_reserved
 visible_off (First (Pair (Called m (AWord cs)) y)) r d e =
-    absurd (false≢true (sym (no_path cs (flat y ++ r) (marks "!" then a_named) (unnamed (codes "pub") cs refl d.1.0.1)) ∙ e))
+    absurd (false≢true (sym (no_path cs (flat y ++ r) (marks "!" then a_named) (unnamed (codes "pub") cs refl d.1.0.1))
+    ∙ e))
 visible_off (First (Pair (Called m _) y)) r d e = absurd d.1.0.1
 visible_off (First (Pair _ y)) r d e = absurd d.1.0
 visible_off (First _) r d e = absurd d.1

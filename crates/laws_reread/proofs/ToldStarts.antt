@@ -175,7 +175,8 @@ plain_crate cs e = go (same_text (codes "crate") cs) refl
   where
     go : (b : Bool) → same_text (codes "crate") cs ≡ b → b ≡ false
     go false i = refl
-    go true i = absurd (false≢true (subst (λ w. is_plain_name w ≡ true) (sym ((bytes_eq-Decides (codes "crate") cs).0 i)) e))
+    go true i = absurd (false≢true (subst (λ w. is_plain_name w ≡ true)
+        (sym ((bytes_eq-Decides (codes "crate") cs).0 i)) e))
 
 -- what stands behind a name in its path begins with no word
 colons_behind : (c : ℕ) (cs : List ℕ) (ts : List Token) → c ≡ 58 → cs ≡ 58 ∷ []

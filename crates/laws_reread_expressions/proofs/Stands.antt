@@ -29,9 +29,11 @@ use Rattle.laws_reread_expressions.proofs.Begins.{Starts, starts, unless_starts,
 use Rattle.laws_reread_expressions.proofs.Begins.{not_ended, paren_operand}
 use Rattle.laws_reread_expressions.proofs.Ends.{LastEnds, last_nothing, nothing_ends, Turns, back_turns, infix_turns_of}
 use Rattle.laws_reread_expressions.proofs.Ends.{beside_turn, beside_nothing, last_ended}
-use Rattle.laws_reread_expressions.proofs.Near.{Near, Beside, beside_inside, near_begins, near_stands, near_inside, meets}
+use Rattle.laws_reread_expressions.proofs.Near.{Near, Beside, beside_inside, near_begins, near_stands, near_inside}
+use Rattle.laws_reread_expressions.proofs.Near.{meets}
 use Rattle.laws_reread_expressions.proofs.Near.{front_meets, back_meets, nothing_goes, nothing_none, all_within}
-use Rattle.laws_reread_expressions.proofs.Opened.{nothing_right, no_label, right_same, right_plain, paren_right, fixed_right}
+use Rattle.laws_reread_expressions.proofs.Opened.{nothing_right, no_label, right_same, right_plain, paren_right}
+use Rattle.laws_reread_expressions.proofs.Opened.{fixed_right}
 use Rattle.laws_reread_expressions.proofs.Turned as T
 
 -- what stands somewhere, and begins with no arrow or the like

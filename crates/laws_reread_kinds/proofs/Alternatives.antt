@@ -46,7 +46,8 @@ use Rattle.laws_reread_kinds.proofs.Sights.{ident_not}
 use Rattle.laws_reread_kinds.proofs.Keywords.{reserved_crate, reserved_false, reserved_mut, reserved_ref}
 use Rattle.laws_reread_kinds.proofs.Keywords.{reserved_big_self, reserved_self, reserved_super}
 use Rattle.laws_reread_kinds.proofs.Keywords.{reserved_true, reserved_underscore}
-use Rattle.laws_reread_kinds.proofs.Seconds.{either_seen, front_seen, group_is_none, mark_is_none, mark_other, none_seen}
+use Rattle.laws_reread_kinds.proofs.Seconds.{either_seen, front_seen, group_is_none, mark_is_none, mark_other}
+use Rattle.laws_reread_kinds.proofs.Seconds.{none_seen}
 use Rattle.laws_reread_kinds.proofs.Seconds.{past_none, word_is_none}
 
 -- a name that is bound

@@ -294,7 +294,8 @@ type_word (Second (Second (Second (Second (First y))))) r d e = absurd (false≢
 type_word (Second (Second (Second (Second (Second (First y)))))) r d e = absurd (false≢true e)
 type_word (Second (Second (Second (Second (Second (Second (First y))))))) r d e = absurd (false≢true e)
 type_word (Second (Second (Second (Second (Second (Second (Second (First y)))))))) r d e = absurd (false≢true e)
-type_word (Second (Second (Second (Second (Second (Second (Second (Second (First y))))))))) r d e = absurd (false≢true e)
+type_word (Second (Second (Second (Second (Second (Second (Second (Second (First y))))))))) r d e = absurd
+    (false≢true e)
 type_word (Second (Second (Second (Second (Second (Second (Second (Second (Second _))))))))) r d e =
     absurd d.1.1.1.1.1.1.1.1.1
 type_word (Second (Second (Second (Second (Second (Second (Second (Second _)))))))) r d e = absurd d.1.1.1.1.1.1.1.1

@@ -58,7 +58,8 @@ dot_class = Sign 46 [] ∷ []
 fine_dot : Fine dot (λ x s. (has_dots x ≡ true) × Lacks (a_quoted ends_in_dot) s) (At dot_class)
 fine_dot =
     fine_seq (λ x s. (has_dots x ≡ true) × Lacks (a_quoted ends_in_dot) s) (At dot_class) found_mark.fine
-    (fine_called {n = the_indices} {A = λ x s. (has_dots (Pair Nil x) ≡ true) × Lacks (a_quoted ends_in_dot) s} {F = Any}
+    (fine_called {n = the_indices} {A = λ x s. (has_dots (Pair Nil x) ≡ true) × Lacks (a_quoted ends_in_dot) s}
+    {F = Any}
     fine_numbers) (λ x y s c. c) (λ x y s i c. tt) (λ x y s j i c. at_front dot_class x y s j)
 
 -- and await
@@ -140,7 +141,8 @@ fine_call_end = record { by = go }
 
 fine_method : Fine (the_name ∶ ident ▸ call_end) (λ x s. has_own_colons (back x) ≡ true) (At (AnyWord is_ident ∷ []))
 fine_method =
-    fine_ahead (λ x s. has_own_colons (back x) ≡ true) call_classes (found_called (found_word is_ident)) fine_call_end tt
+    fine_ahead (λ x s. has_own_colons (back x) ≡ true) call_classes (found_called (found_word is_ident)) fine_call_end
+    tt
     (λ x y s c. c)
 
 pub step_expr_method_call : Step ExprMethodCall

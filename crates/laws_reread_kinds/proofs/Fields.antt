@@ -133,7 +133,8 @@ name_none cs us e = go (is_key cs) refl
     go false f = refl
     go true f =
         absurd (of_all (λ ts. is_name_front ts ≡ true → ⊥) (the_words keys) (Ident cs ∷ us)
-        (λ vs g. false≢true g, (λ vs g. false≢true g, (λ vs g. false≢true g, (λ vs g. false≢true g, tt)))) (words_are keys cs us f) e)
+        (λ vs g. false≢true g, (λ vs g. false≢true g, (λ vs g. false≢true g, (λ vs g. false≢true g, tt))))
+        (words_are keys cs us f) e)
 
 -- self, super and crate behind which a mark stands
 marked_none : (cs : List ℕ) (us : List Token) → is_path_keyword cs ≡ true → is_marked us ≡ true

@@ -19,7 +19,8 @@ use Rattle.laws_reread_kinds.proofs.Verdicts.{no_lifetime}
 use Rattle.laws_reread_kinds.proofs.Fits.{Fits}
 use Rattle.laws_reread_kinds.proofs.Readies.{Ready, Step}
 use Rattle.laws_reread_kinds.proofs.Fine.{At, AtOrNone, words_are}
-use Rattle.laws_reread_kinds.proofs.Parts.{Found, Maybe, none_never, found_before, found_called, found_ended, found_group}
+use Rattle.laws_reread_kinds.proofs.Parts.{Found, Maybe, none_never, found_before, found_called, found_ended}
+use Rattle.laws_reread_kinds.proofs.Parts.{found_group}
 use Rattle.laws_reread_kinds.proofs.Parts.{found_optional, found_ref, found_seq, found_text, found_words, maybe_step}
 
 -- a visibility's restriction, by the word in its parentheses

@@ -36,7 +36,8 @@ use Rattle.laws_reread_kinds.proofs.Keywords.{reserved_where}
 use Rattle.laws_reread_kinds.proofs.Fits.{Fits, IsMeant, IsOwn, IsOwnImpl, back, behind_impl, is_never, is_never_type}
 use Rattle.laws_reread_kinds.proofs.Readies.{Ready, Step}
 use Rattle.laws_reread_kinds.proofs.Fine.{Any, At, Edge, Fine, fine_judged, fine_ref, fine_seq, fine_weaker}
-use Rattle.laws_reread_kinds.proofs.Parts.{Found, Unseen, at_front, found_called, found_group, found_optional, found_ref}
+use Rattle.laws_reread_kinds.proofs.Parts.{Found, Unseen, at_front, found_called, found_group, found_optional}
+use Rattle.laws_reread_kinds.proofs.Parts.{found_ref}
 use Rattle.laws_reread_kinds.proofs.Parts.{found_seq, found_text, maybe_ahead, maybe_both, maybe_called, maybe_ended}
 use Rattle.laws_reread_kinds.proofs.Parts.{maybe_ref, maybe_seq, meant_step, told_at, unseen_all, weaken_maybe}
 use Rattle.laws_reread_kinds.proofs.Printed.{IsPlaced, KindLaw, Printed, VerdictLaw, kept_entry, simple_law}

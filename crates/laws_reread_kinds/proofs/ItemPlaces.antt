@@ -361,7 +361,8 @@ words (w ∷ ws) ts e i = go (is_among item_words w) refl e (λ f j. words ws ts
     go : (b : Bool) → is_among item_words w ≡ b → cond b (all_among ws) false ≡ true
         → (all_among ws ≡ true → IsAmong (the_words ws) ts → IsAmong (the_words item_words) ts)
         → IsAmong (the_words item_words) ts
-    go true h f k = ⊎_elim (λ j. subst (IsAmong (the_words item_words)) (sym j.1) (words_are item_words w j.0 h)) (λ j. k f j) i
+    go true h f k = ⊎_elim (λ j. subst (IsAmong (the_words item_words)) (sym j.1) (words_are item_words w j.0 h))
+        (λ j. k f j) i
     go false h f k = cc f
 
 placing : (k : Kind) (vs : List (List ℕ)) → all_among vs ≡ true → ((x : Tree) (s : List Token) → After k x s)
@@ -370,8 +371,11 @@ placing : (k : Kind) (vs : List (List ℕ)) → all_among vs ≡ true → ((x : 
 placing k vs e a b p =
     record {
       after = a;
-      placed = λ y s h d i.
-          (p y s h d, among_left (the_words item_words) listed_classes (flat y ++ s) (words vs (flat y ++ s) e (b y s i)));
+      placed = λ y s h d i. (
+        p y s h d,
+        among_left (the_words item_words) listed_classes (flat y ++ s)
+            (words vs (flat y ++ s) e (b y s i)),
+      );
     }
 
 unplaced : (k : Kind) → ((x : Tree) (s : List Token) → After k x s)

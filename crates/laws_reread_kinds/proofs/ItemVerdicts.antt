@@ -576,7 +576,8 @@ law_use q y v r d f e = (
 )
 
 -- impls: what is implemented is a path
-path_in : (k : Kind) (x : Tree) (r : List Token) → Derives x (table k) r → is_path (kept (Node k x)) ≡ is_path (Node k x)
+path_in : (k : Kind) (x : Tree) (r : List Token) → Derives x (table k) r → is_path (kept (Node k x))
+    ≡ is_path (Node k x)
 unfolding held table
 path_in (AnyPath s) (First x) r d = refl
 path_in (AnyPath s) (Second x) r d = refl

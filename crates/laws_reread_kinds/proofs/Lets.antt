@@ -40,7 +40,8 @@ use Rattle.laws_reread_kinds.proofs.Passed.{behind_attributes}
 use Rattle.laws_reread_kinds.proofs.Readies.{Ready, Step}
 use Rattle.laws_reread_kinds.proofs.Fine.{At, Edge, Fine, fine_judged, fine_ref, fine_weaker}
 use Rattle.laws_reread_kinds.proofs.Parts.{at_front, fine_ahead, found_called, found_mark, found_optional, found_ref}
-use Rattle.laws_reread_kinds.proofs.Parts.{found_seq, found_text, maybe_ahead, maybe_ref, maybe_seq, meant_step, told_at}
+use Rattle.laws_reread_kinds.proofs.Parts.{found_seq, found_text, maybe_ahead, maybe_ref, maybe_seq, meant_step}
+use Rattle.laws_reread_kinds.proofs.Parts.{told_at}
 use Rattle.laws_reread_kinds.proofs.Parts.{unseen_all}
 use Rattle.laws_reread_kinds.proofs.Printed.{KindLaw, Printed, VerdictLaw, kept_entry, simple_law}
 use Rattle.laws_items.proofs.Places.{kept_raw}

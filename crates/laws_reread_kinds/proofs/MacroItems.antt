@@ -12,7 +12,8 @@ use Rattle.syn_grammar.specs.Kind.{Place as ItemPlace, Plain, Position, Segments
 use Rattle.syn_grammar.specs.Tree.{Tree, AMark, AWord, First, Nil, Node, Pair, Second, marks as signs, flat}
 use Rattle.syn_grammar.specs.Words.{is_ident, is_reserved, is_string, same_text}
 use Rattle.syn_grammar.specs.Gram.{Gram}
-use Rattle.syn_grammar.specs.Look.{Look, a_group, a_quoted, an_ident, behind, first_seen, maybe, no, seen, sees, ◌or◌, ◌then◌}
+use Rattle.syn_grammar.specs.Look.{Look, a_group, a_quoted, an_ident, behind, first_seen, maybe, no, seen, sees, ◌or◌}
+use Rattle.syn_grammar.specs.Look.{◌then◌}
 use Rattle.syn_grammar.specs.Say.{at, marks, optional, sign}
 use Rattle.syn_grammar.specs.Items.{restricted_trait_stands, signature_stands, trait_stands}
 use Rattle.syn_grammar.specs.Lists.{macro_stands}
@@ -66,7 +67,12 @@ is_front p cs us h =
 -- what is looked for before a macro
 abbrev form_looks : List Look
 form_looks =
-    signature_stands InFile ∷ (at "extern" then at "crate") ∷ at "extern" ∷ at "use" ∷ at "static" ∷ (at "const" then trait_stands) ∷ (at "const" then maybe (at "unsafe") then at "impl") ∷ at "const" ∷ (at "unsafe" then at "extern") ∷ (at "unsafe" then at "mod") ∷ (at "unsafe" then at "impl") ∷ at "unsafe" ∷ at "mod" ∷ at "type" ∷ at "struct" ∷ at "enum" ∷ (at "union" then an_ident) ∷ restricted_trait_stands ∷ (at "trait" or (at "auto" then at "trait")) ∷ (at "impl" or (at "default" then no (marks "!"))) ∷ at "macro" ∷ []
+    signature_stands InFile ∷ (at "extern" then at "crate") ∷ at "extern" ∷ at "use" ∷ at "static"
+    ∷ (at "const" then trait_stands) ∷ (at "const" then maybe (at "unsafe") then at "impl") ∷ at "const"
+    ∷ (at "unsafe" then at "extern") ∷ (at "unsafe" then at "mod") ∷ (at "unsafe" then at "impl") ∷ at "unsafe"
+    ∷ at "mod" ∷ at "type" ∷ at "struct" ∷ at "enum" ∷ (at "union" then an_ident) ∷ restricted_trait_stands
+    ∷ (at "trait" or (at "auto" then at "trait")) ∷ (at "impl" or (at "default" then no (marks "!"))) ∷ at "macro"
+    ∷ []
 
 abbrev pub abi_fn : Look
 abi_fn = maybe (at "extern" then maybe (a_quoted is_string)) then at "fn"
@@ -140,8 +146,69 @@ default_lacked p n cs us e = go (same_text (codes "default") cs) (default_bang p
 
 word_lacks : (cs : List ℕ) (us : List Token) → macro_word InFile cs us ≡ true → LacksAll form_looks (Ident cs ∷ us)
 unfolding is_reserved
-word_lacks cs us e =
-    ((ident_lacks cs us h.0).0, ((none_then (at "extern") (at "crate") ts (at_no "extern" refl)), ((at_no "extern" refl), ((at_no "use" refl), ((at_no "static" refl), ((none_then (at "const") (trait_stands) ts (at_no "const" refl)), ((none_then (at "const") (maybe (at "unsafe") then at "impl") ts (at_no "const" refl)), ((at_no "const" refl), ((none_then (at "unsafe") (at "extern") ts (at_no "unsafe" refl)), ((none_then (at "unsafe") (at "mod") ts (at_no "unsafe" refl)), ((none_then (at "unsafe") (at "impl") ts (at_no "unsafe" refl)), ((at_no "unsafe" refl), ((at_no "mod" refl), ((at_no "type" refl), ((at_no "struct" refl), ((at_no "enum" refl), ((unseen "union" an_ident (no_ident us h.1)), ((none_then (at "impl") (a_group Parenthesis then (at "const" or at "unsafe" or at "auto" or at "trait")) ts (at_no "impl" refl)), ((none_of _ _ (at_no "trait" refl) (unseen "auto" (at "trait") (no_trait us h.1))), ((none_of _ _ (at_no "impl" refl) (default_lacked InFile (λ b f. f) cs us h.2)), ((at_no "macro" refl), tt)))))))))))))))))))))
+word_lacks cs us e = (
+  (ident_lacks cs us h.0).0,
+  (
+    (none_then (at "extern") (at "crate") ts (at_no "extern" refl)),
+    (
+      (at_no "extern" refl),
+      (
+        (at_no "use" refl),
+        (
+          (at_no "static" refl),
+          (
+            (none_then (at "const") (trait_stands) ts (at_no "const" refl)),
+            (
+              (none_then (at "const") (maybe (at "unsafe") then at "impl") ts (at_no "const" refl)),
+              (
+                (at_no "const" refl),
+                (
+                  (none_then (at "unsafe") (at "extern") ts (at_no "unsafe" refl)),
+                  (
+                    (none_then (at "unsafe") (at "mod") ts (at_no "unsafe" refl)),
+                    (
+                      (none_then (at "unsafe") (at "impl") ts (at_no "unsafe" refl)),
+                      (
+                        (at_no "unsafe" refl),
+                        (
+                          (at_no "mod" refl),
+                          (
+                            (at_no "type" refl),
+                            (
+                              (at_no "struct" refl),
+                              (
+                                (at_no "enum" refl),
+                                (
+                                  (unseen "union" an_ident (no_ident us h.1)),
+                                  (
+                                    (none_then (at "impl") (a_group Parenthesis then
+                                        (at "const" or at "unsafe" or at "auto" or at "trait")) ts
+                                        (at_no "impl" refl)),
+                                    (
+                                      (none_of _ _ (at_no "trait" refl) (unseen "auto" (at "trait") (no_trait us h.1))),
+                                      (
+                                        (none_of _ _ (at_no "impl" refl) (default_lacked InFile (λ b f. f) cs us h.2)),
+                                        ((at_no "macro" refl), tt),
+                                      ),
+                                    ),
+                                  ),
+                                ),
+                              ),
+                            ),
+                          ),
+                        ),
+                      ),
+                    ),
+                  ),
+                ),
+              ),
+            ),
+          ),
+        ),
+      ),
+    ),
+  ),
+)
   where
     ts : List Token
     ts = Ident cs ∷ us
@@ -157,8 +224,70 @@ word_lacks cs us e =
 
 keys_lack : (ts : List Token) → IsAmong key_classes ts → LacksAll form_looks ts
 keys_lack ts i =
-    unseen_all form_looks key_classes ts
-    ((λ us. refl, (λ us. refl, (λ us. refl, (λ us. refl, tt)))), ((λ us. refl, (λ us. refl, (λ us. refl, (λ us. refl, tt)))), ((λ us. refl, (λ us. refl, (λ us. refl, (λ us. refl, tt)))), ((λ us. refl, (λ us. refl, (λ us. refl, (λ us. refl, tt)))), ((λ us. refl, (λ us. refl, (λ us. refl, (λ us. refl, tt)))), ((λ us. refl, (λ us. refl, (λ us. refl, (λ us. refl, tt)))), ((λ us. refl, (λ us. refl, (λ us. refl, (λ us. refl, tt)))), ((λ us. refl, (λ us. refl, (λ us. refl, (λ us. refl, tt)))), ((λ us. refl, (λ us. refl, (λ us. refl, (λ us. refl, tt)))), ((λ us. refl, (λ us. refl, (λ us. refl, (λ us. refl, tt)))), ((λ us. refl, (λ us. refl, (λ us. refl, (λ us. refl, tt)))), ((λ us. refl, (λ us. refl, (λ us. refl, (λ us. refl, tt)))), ((λ us. refl, (λ us. refl, (λ us. refl, (λ us. refl, tt)))), ((λ us. refl, (λ us. refl, (λ us. refl, (λ us. refl, tt)))), ((λ us. refl, (λ us. refl, (λ us. refl, (λ us. refl, tt)))), ((λ us. refl, (λ us. refl, (λ us. refl, (λ us. refl, tt)))), ((λ us. refl, (λ us. refl, (λ us. refl, (λ us. refl, tt)))), ((λ us. refl, (λ us. refl, (λ us. refl, (λ us. refl, tt)))), ((λ us. refl, (λ us. refl, (λ us. refl, (λ us. refl, tt)))), ((λ us. refl, (λ us. refl, (λ us. refl, (λ us. refl, tt)))), ((λ us. refl, (λ us. refl, (λ us. refl, (λ us. refl, tt)))), tt))))))))))))))))))))) i
+    unseen_all form_looks key_classes ts (
+      (λ us. refl, (λ us. refl, (λ us. refl, (λ us. refl, tt)))),
+      (
+        (
+          λ us. refl,
+          (λ us. refl, (λ us. refl, (λ us. refl, tt))),
+        ),
+        (
+          (λ us. refl, (λ us. refl, (λ us. refl, (λ us. refl, tt)))),
+          (
+            (λ us. refl, (λ us. refl, (λ us. refl, (λ us. refl, tt)))),
+            (
+              (λ us. refl, (λ us. refl, (λ us. refl, (λ us. refl, tt)))),
+              (
+                (λ us. refl, (λ us. refl, (λ us. refl, (λ us. refl, tt)))),
+                (
+                  (λ us. refl, (λ us. refl, (λ us. refl, (λ us. refl, tt)))),
+                  (
+                    (λ us. refl, (λ us. refl, (λ us. refl, (λ us. refl, tt)))),
+                    (
+                      (λ us. refl, (λ us. refl, (λ us. refl, (λ us. refl, tt)))),
+                      (
+                        (λ us. refl, (λ us. refl, (λ us. refl, (λ us. refl, tt)))),
+                        (
+                          (λ us. refl, (λ us. refl, (λ us. refl, (λ us. refl, tt)))),
+                          (
+                            (λ us. refl, (λ us. refl, (λ us. refl, (λ us. refl, tt)))),
+                            (
+                              (λ us. refl, (λ us. refl, (λ us. refl, (λ us. refl, tt)))),
+                              (
+                                (λ us. refl, (λ us. refl, (λ us. refl, (λ us. refl, tt)))),
+                                (
+                                  (λ us. refl, (λ us. refl, (λ us. refl, (λ us. refl, tt)))),
+                                  (
+                                    (λ us. refl, (λ us. refl, (λ us. refl, (λ us. refl, tt)))),
+                                    (
+                                      (λ us. refl, (λ us. refl, (λ us. refl, (λ us. refl, tt)))),
+                                      (
+                                        (λ us. refl, (λ us. refl, (λ us. refl, (λ us. refl, tt)))),
+                                        (
+                                          (λ us. refl, (λ us. refl, (λ us. refl, (λ us. refl, tt)))),
+                                          (
+                                            (λ us. refl, (λ us. refl, (λ us. refl, (λ us. refl, tt)))),
+                                            ((λ us. refl, (λ us. refl, (λ us. refl, (λ us. refl, tt)))), tt),
+                                          ),
+                                        ),
+                                      ),
+                                    ),
+                                  ),
+                                ),
+                              ),
+                            ),
+                          ),
+                        ),
+                      ),
+                    ),
+                  ),
+                ),
+              ),
+            ),
+          ),
+        ),
+      ),
+    ) i
 
 pub macro_lacks : (ts : List Token) → IsAmong (macro_classes InFile) ts → LacksAll form_looks ts
 macro_lacks ts i =
@@ -181,9 +310,77 @@ pub place_macro : (y : Tree) (r : List Token) → Derives y (table (ItemMacro In
     → IsAmong (macro_classes InFile) (flat y ++ r) → Place (ItemMacro InFile) y r
 place_macro y r d i =
     let l = macro_lacks (flat y ++ r) i in (
-      Second (Second (Second (Second (Second (Second (Second (Second (Second (Second (Second (Second (Second (Second (Second (Second (Second (Second (Second (Second (Second (First (Node (ItemMacro InFile) y)))))))))))))))))))))),
+      Second (Second (Second (Second (Second (Second (Second (Second
+          (Second (Second (Second (Second (Second (Second (Second (Second
+          (Second (Second (Second (Second (Second (First (Node (ItemMacro InFile) y)))))))))))))))))))))),
       refl,
-      (l.0, (l.1.0, (l.1.1.0, (l.1.1.1.0, (l.1.1.1.1.0, (l.1.1.1.1.1.0, (l.1.1.1.1.1.1.0, (l.1.1.1.1.1.1.1.0, (l.1.1.1.1.1.1.1.1.0, (l.1.1.1.1.1.1.1.1.1.0, (l.1.1.1.1.1.1.1.1.1.1.0, (l.1.1.1.1.1.1.1.1.1.1.1.0, (l.1.1.1.1.1.1.1.1.1.1.1.1.0, (l.1.1.1.1.1.1.1.1.1.1.1.1.1.0, (l.1.1.1.1.1.1.1.1.1.1.1.1.1.1.0, (l.1.1.1.1.1.1.1.1.1.1.1.1.1.1.1.0, (l.1.1.1.1.1.1.1.1.1.1.1.1.1.1.1.1.0, (l.1.1.1.1.1.1.1.1.1.1.1.1.1.1.1.1.1.0, (l.1.1.1.1.1.1.1.1.1.1.1.1.1.1.1.1.1.1.0, (l.1.1.1.1.1.1.1.1.1.1.1.1.1.1.1.1.1.1.1.0, (l.1.1.1.1.1.1.1.1.1.1.1.1.1.1.1.1.1.1.1.1.0, (macro_seen InFile (flat y ++ r) i, (refl, d))))))))))))))))))))))),
+      (
+        l.0,
+        (
+          l.1.0,
+          (
+            l.1.1.0,
+            (
+              l.1.1.1.0,
+              (
+                l.1.1.1.1.0,
+                (
+                  l.1.1.1.1.1.0,
+                  (
+                    l.1.1.1.1.1.1.0,
+                    (
+                      l.1.1.1.1.1.1.1.0,
+                      (
+                        l.1.1.1.1.1.1.1.1.0,
+                        (
+                          l.1.1.1.1.1.1.1.1.1.0,
+                          (
+                            l.1.1.1.1.1.1.1.1.1.1.0,
+                            (
+                              l.1.1.1.1.1.1.1.1.1.1.1.0,
+                              (
+                                l.1.1.1.1.1.1.1.1.1.1.1.1.0,
+                                (
+                                  l.1.1.1.1.1.1.1.1.1.1.1.1.1.0,
+                                  (
+                                    l.1.1.1.1.1.1.1.1.1.1.1.1.1.1.0,
+                                    (
+                                      l.1.1.1.1.1.1.1.1.1.1.1.1.1.1.1.0,
+                                      (
+                                        l.1.1.1.1.1.1.1.1.1.1.1.1.1.1.1.1.0,
+                                        (
+                                          l.1.1.1.1.1.1.1.1.1.1.1.1.1.1.1.1.1.0,
+                                          (
+                                            l.1.1.1.1.1.1.1.1.1.1.1.1.1.1.1.1.1.1.0,
+                                            (
+                                              l.1.1.1.1.1.1.1.1.1.1.1.1.1.1.1.1.1.1.1.0,
+                                              (
+                                                l.1.1.1.1.1.1.1.1.1.1.1.1.1.1.1.1.1.1.1.1.0,
+                                                (
+                                                  macro_seen InFile (flat y ++ r) i,
+                                                  (refl, d),
+                                                ),
+                                              ),
+                                            ),
+                                          ),
+                                        ),
+                                      ),
+                                    ),
+                                  ),
+                                ),
+                              ),
+                            ),
+                          ),
+                        ),
+                      ),
+                    ),
+                  ),
+                ),
+              ),
+            ),
+          ),
+        ),
+      ),
     )
 
 -- what its tokens begin with
@@ -262,7 +459,8 @@ segments_behind p (Second (Pair (AWord ds) (First y))) r cs us d e b h = absurd 
 segments_behind p (Second (Pair (AWord ds) (Second (First y)))) r cs us d e b h =
     behind_is p ds cs (flat y ++ r) us e
     (colons_marked (flat y ++ r) d.1.1.1.0, own_more p ds (sees (marks "!") (flat y ++ r)) h)
-segments_behind p (Second (Pair (AWord ds) (Second (Second (First y))))) r cs us d e b h = absurd (false≢true d.1.1.1.1.0)
+segments_behind p (Second (Pair (AWord ds) (Second (Second (First y))))) r cs us d e b h = absurd
+    (false≢true d.1.1.1.1.0)
 segments_behind p (Second (Pair (AWord ds) (Second (Second (Second Nil))))) r cs us d e b h =
     behind_is p ds cs r us e (bang_marked r b, ap (is_own_word p ds) b ∙ h)
 segments_behind p (Second (Pair (AWord ds) (Second (Second (Second _))))) r cs us d e b h = absurd d.1.1.1.1.1
@@ -306,7 +504,9 @@ pub macro_front : (p : ItemPlace) (y : Tree) (s : List Token) → Derives y (tab
     → IsAmong (macro_classes p) (flat y ++ s)
 unfolding skips
 macro_front p y s d i h =
-    ⊎_elim (colons (TheWord (codes "self"))) (⊎_elim (colons (TheWord (codes "super"))) (⊎_elim (colons (TheWord (codes "crate"))) (⊎_elim (colons (AnyWord is_ident)) (⊎_elim (colons (TheWord (codes "Self")))
+    ⊎_elim (colons (TheWord (codes "self"))) (⊎_elim (colons (TheWord (codes "super")))
+    (⊎_elim (colons (TheWord (codes "crate"))) (⊎_elim (colons (AnyWord is_ident))
+    (⊎_elim (colons (TheWord (codes "Self")))
     (⊎_elim (λ j. inr (inl j)) (⊎_elim (λ j. inr (inr (inl j))) (⊎_elim (λ j. inr (inr (inr (inl j))))
     (⊎_elim (λ j. inl (word j.0 j.1 j.2 j.3))
     (⊎_elim (λ j. absurd (false≢true (macro_behind p y s (codes "Self") j.0 d j.1 h).1))

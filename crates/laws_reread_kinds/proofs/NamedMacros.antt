@@ -58,7 +58,64 @@ none k n q y v r d f e h = absurd (false≢true (sym (n y) ∙ h))
 each_named : EachOf SameName item_form
 each_named = (
   none _ (λ y. refl),
-  (none _ (λ y. refl), (none _ (λ y. refl), (none _ (λ y. refl), (none _ (λ y. refl), (none _ (λ y. refl), (none _ (λ y. refl), (none _ (λ y. refl), (none _ (λ y. refl), (none _ (λ y. refl), (none _ (λ y. refl), (none _ (λ y. refl), (none _ (λ y. refl), (none _ (λ y. refl), (none _ (λ y. refl), (none _ (λ y. refl), (none _ (λ y. refl), (none _ (λ y. refl), (none _ (λ y. refl), (none _ (λ y. refl), (none _ (λ y. refl), (named, tt))))))))))))))))))))),
+  (
+    none _ (λ y. refl),
+    (
+      none _ (λ y. refl),
+      (
+        none _ (λ y. refl),
+        (
+          none _ (λ y. refl),
+          (
+            none _ (λ y. refl),
+            (
+              none _ (λ y. refl),
+              (
+                none _ (λ y. refl),
+                (
+                  none _ (λ y. refl),
+                  (
+                    none _ (λ y. refl),
+                    (
+                      none _ (λ y. refl),
+                      (
+                        none _ (λ y. refl),
+                        (
+                          none _ (λ y. refl),
+                          (
+                            none _ (λ y. refl),
+                            (
+                              none _ (λ y. refl),
+                              (
+                                none _ (λ y. refl),
+                                (
+                                  none _ (λ y. refl),
+                                  (
+                                    none _ (λ y. refl),
+                                    (
+                                      none _ (λ y. refl),
+                                      (
+                                        none _ (λ y. refl),
+                                        (none _ (λ y. refl), (named, tt)),
+                                      ),
+                                    ),
+                                  ),
+                                ),
+                              ),
+                            ),
+                          ),
+                        ),
+                      ),
+                    ),
+                  ),
+                ),
+              ),
+            ),
+          ),
+        ),
+      ),
+    ),
+  ),
 )
 
 -- no visibility
@@ -96,7 +153,8 @@ item_part x = x
 named_whole : (a b : Kind) (x w : Tree) (r : List Token) → Derives x whole_item r → Fits w whole_item
     → kept w ≡ normal_in Plain (kept x) → is_macro_item (Node a (First x)) ≡ true
     → is_macro_item (Node b (First w)) ≡ true
-named_whole a b (Pair o (Pair (Called n (Node k v)) (Called m i))) (Pair p (Pair (Called l (Node j u)) (Called t z))) r d
+named_whole a b (Pair o (Pair (Called n (Node k v)) (Called m i))) (Pair p (Pair (Called l (Node j u)) (Called t z))) r
+    d
     f e h =
     let c = both_true (not (is_there v)) (is_named_macro (choice i)) h in
     both_same (not (is_there u)) (is_named_macro (choice z)) true true
@@ -146,7 +204,8 @@ named_printed x (First _) r d n f e = absurd f.1
 named_printed x (Second w) r d n f e = cc e
 named_printed x _ r d n f e = absurd f
 
-pub named_law : (q : Position) (x : Tree) (r : List Token) → Derives x (table AnItem) r → Law q r (First (Node AnItem x))
+pub named_law : (q : Position) (x : Tree) (r : List Token) → Derives x (table AnItem) r
+    → Law q r (First (Node AnItem x))
 unfolding table held passed has_step has_form_step
 named_law q (First x) r c o d i =
     let s = named_printed x i.tree r c o i.fits i.kept_is in

@@ -438,7 +438,8 @@ fine_ahead {a} {b} {ls} {cs} {E} C ds f g h k =
     fine_seq C (At cs) f.fine g k (λ x y s i c. unseen_all ls ds (flat y ++ s) h i)
     (λ x y s j i c. at_front cs x y s j)
 
-pub maybe_ahead : {a b : Gram} {ls : List Look} {cs : List Class} {E : Edge} (C : Edge) (ds : List Class) → Maybe a ls cs
+pub maybe_ahead : {a b : Gram} {ls : List Look} {cs : List Class} {E : Edge} (C : Edge) (ds : List Class)
+    → Maybe a ls cs
     → Fine b E (At ds) → Unseen ls ds → ((x y : Tree) (s : List Token) → C (Pair x y) s → E y s)
     → Fine (seq a b) C (At (cs ++ ds))
 maybe_ahead {a} {b} {ls} {cs} {E} C ds f g h k =

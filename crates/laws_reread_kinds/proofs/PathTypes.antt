@@ -32,10 +32,12 @@ step_type_with_plus (Second (Second (Second (Second (Second (Second (Second (Sec
     (inr (e, a)) = absurd (false≢true e)
 step_type_with_plus (Second (Second (Second (Second (Second (Second (Second (Second _)))))))) s f n w (inr (e, a)) =
     absurd f.1.1.1.1.1.1.1.1
-step_type_with_plus (Second (Second (Second (Second (Second (Second (Second (First z)))))))) s f n w (inr (e, a)) = absurd (false≢true e)
+step_type_with_plus (Second (Second (Second (Second (Second (Second (Second (First z)))))))) s f n w
+    (inr (e, a)) = absurd (false≢true e)
 step_type_with_plus (Second (Second (Second (Second (Second (Second (Second _))))))) s f n w (inr (e, a)) = absurd
     f.1.1.1.1.1.1.1
-step_type_with_plus (Second (Second (Second (Second (Second (Second (First z))))))) s f n w (inr (e, a)) = absurd (false≢true e)
+step_type_with_plus (Second (Second (Second (Second (Second (Second (First z))))))) s f n w (inr (e, a)) = absurd
+    (false≢true e)
 step_type_with_plus (Second (Second (Second (Second (Second (Second _)))))) s f n w (inr (e, a)) = absurd f.1.1.1.1.1.1
 step_type_with_plus (Second (Second (Second (Second (Second (First z)))))) s f n w (inr (e, a)) = absurd (false≢true e)
 step_type_with_plus (Second (Second (Second (Second (Second _))))) s f n w (inr (e, a)) = absurd f.1.1.1.1.1

@@ -28,7 +28,8 @@ use Rattle.laws_reread_kinds.proofs.Starts.{starts}
 use Rattle.laws_reread_kinds.proofs.Fits.{Fits, IsMeant, has_own_for, is_for, is_long}
 use Rattle.laws_reread_kinds.proofs.Readies.{Ready, Step}
 use Rattle.laws_reread_kinds.proofs.Fine.{Fine, Edge, At, AtOrNone, Without, fine_alt, fine_seq}
-use Rattle.laws_reread_kinds.proofs.Parts.{Found, at_back, at_front, found_before, found_lifetime, found_mark, found_ref}
+use Rattle.laws_reread_kinds.proofs.Parts.{Found, at_back, at_front, found_before, found_lifetime, found_mark}
+use Rattle.laws_reread_kinds.proofs.Parts.{found_ref}
 use Rattle.laws_reread_kinds.proofs.Parts.{found_seq, maybe_ref, meant_step, told_at, weaken}
 use Rattle.laws_reread_kinds.proofs.Printed.{KindLaw, IsPlaced, Printed, simple_law}
 use Rattle.laws_reread_kinds.proofs.KindLaws.{chosen_fits, chosen_read, there_normal}

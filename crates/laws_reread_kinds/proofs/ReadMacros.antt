@@ -16,7 +16,8 @@ use Rattle.syn_grammar.specs.Lists.{item_form, macro_stands}
 use Rattle.syn_grammar.specs.Table.{table}
 use Rattle.syn_grammar.specs.Derives.{Derives}
 use Rattle.laws_reread_kinds.specs.Sees.{Lacks}
-use Rattle.laws_reread_kinds.proofs.MacroPaths.{has_own_word, has_plain_path, is_own_word, is_plain_macro, is_plain_path}
+use Rattle.laws_reread_kinds.proofs.MacroPaths.{has_own_word, has_plain_path, is_own_word, is_plain_macro}
+use Rattle.laws_reread_kinds.proofs.MacroPaths.{is_plain_path}
 use Rattle.laws_reread_kinds.proofs.MacroPaths.{may_be_default}
 use Rattle.laws_reread_kinds.proofs.Seconds.{mark_other}
 

@@ -210,7 +210,8 @@ fine_patterned = record { by = go }
     go (Pair (Called n p) y) s f w c =
         let (d, i) = found_patterned.fine.by (Pair (Called n p) y) s f w (covers_type s c.0) in
         let (e, j) = found_end.fine.by y s f.1 w.1 (covers_type s c.0) in
-        let a : Unmarked 60 (flat y ++ s) = told_at (marks "<") false (Sign 58 [] ∷ []) (flat y ++ s) (λ us. refl, tt) j in
+        let a : Unmarked 60 (flat y ++ s) = told_at (marks "<") false (Sign 58 [] ∷ []) (flat y ++ s) (λ us. refl, tt) j
+        in
         let h = append_assoc (flat p) (flat y) s in (
           d,
           (

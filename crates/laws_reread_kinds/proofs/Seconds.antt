@@ -30,7 +30,8 @@ use Rattle.laws_reread_kinds.proofs.Starts.{starts}
 use Rattle.laws_reread_kinds.proofs.Classes.{TheWord, AnyWord, the_words, of_all, among_left, among_right}
 use Rattle.laws_reread_kinds.proofs.Sights.{ident_not}
 use Rattle.laws_reread_kinds.proofs.Keywords.{reserved_self, reserved_super, reserved_crate, reserved_underscore}
-use Rattle.laws_reread_kinds.proofs.Keywords.{reserved_dyn, reserved_impl, reserved_for, reserved_unsafe, reserved_extern}
+use Rattle.laws_reread_kinds.proofs.Keywords.{reserved_dyn, reserved_impl, reserved_for, reserved_unsafe}
+use Rattle.laws_reread_kinds.proofs.Keywords.{reserved_extern}
 use Rattle.laws_reread_kinds.proofs.Keywords.{reserved_fn}
 use Rattle.laws_reread_kinds.proofs.Fits.{Fits}
 use Rattle.laws_reread_kinds.proofs.Readies.{Ready}

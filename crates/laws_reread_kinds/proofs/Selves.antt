@@ -302,7 +302,8 @@ self_in : (x : Tree) (s : List Token) → Derives x (table OnePattern) s
     → sees self_stands (flat x ++ s) ≡ is_self_alone (choice x)
 unfolding table
 self_in (First (Node k y)) s d =
-    other_kind IdentPattern k y (flat y ++ s) d.1.0 refl (ident_self y s (subst (λ j. Derives y (table j) s) d.1.0 d.1.1))
+    other_kind IdentPattern k y (flat y ++ s) d.1.0 refl (ident_self y s
+    (subst (λ j. Derives y (table j) s) d.1.0 d.1.1))
 self_in (First _) s d = absurd d.1
 self_in (Second x) s d = unnamed_self x s d.1
 self_in _ s d = absurd d

@@ -248,7 +248,8 @@ ended_here t y o a =
 -- a macro in braces ends there
 pub macro_ends : (x : Tree) → Fits x (table AStatement) → is_statement_form x ≡ true → is_macro_statement x ≡ true
     → ends_there InStatement (whole (expression_of x)) ≡ true
-macro_ends x f n = each_form (λ y. is_macro_statement y ≡ true → ends_there InStatement (whole (expression_of y)) ≡ true)
+macro_ends x f n = each_form (λ y. is_macro_statement y ≡ true → ends_there InStatement (whole (expression_of y))
+    ≡ true)
     (λ k l o y s g h c. h) (λ k l o y c. absurd (false≢true c)) (λ y g i c. absurd (false≢true c))
     (λ y c. absurd (false≢true c)) (λ a y s i g h c. absurd (false≢true c)) x f n
 

@@ -33,7 +33,8 @@ use Rattle.laws_reread_kinds.proofs.Choices.{both_true, is_false}
 use Rattle.laws_reread_kinds.proofs.Ends.{ends_back, macro_read, own_back}
 use Rattle.laws_reread_kinds.proofs.Fits.{Fits, is_open_turn, IsMeant}
 use Rattle.laws_reread_kinds.proofs.InFront.{attribute_apart, attributes_fit, attributes_kept, attributes_normal}
-use Rattle.laws_reread_kinds.proofs.InFront.{attributes_read, ends_given, given_ends, given_flat, given_to, is_attributes}
+use Rattle.laws_reread_kinds.proofs.InFront.{attributes_read, ends_given, given_ends, given_flat, given_to}
+use Rattle.laws_reread_kinds.proofs.InFront.{is_attributes}
 use Rattle.laws_reread_kinds.proofs.InFront.{enclosed, is_ranged, settled_inside}
 use Rattle.laws_reread_kinds.proofs.NamedMacros.{named_law}
 use Rattle.laws_reread_kinds.proofs.Lets.{at_item, item_law, Law, let_printed}
@@ -666,7 +667,8 @@ each_form P call one other named third (Second (Second (Second (Second x)))) f n
     subst P (sym e.is) (third e.front e.form e.semicolon (attributes_fit e.front e.attributes) e.fits e.ended)
 each_form P call one other named third (Second (Second (Second _))) f n = absurd f.1.1.1
 each_form P call one other named third (Second (Second _)) f n = absurd f.1.1
-each_form P call one other named third (Second (First (Pair (Node k o) (Pair (Node l y) s)))) f n = call k l o y s f.1.1.1.1 n
+each_form P call one other named third (Second (First (Pair (Node k o) (Pair (Node l y) s)))) f n = call k l o y s
+    f.1.1.1.1 n
 each_form P call one other named third (Second (First (Pair (Node k o) (Pair _ s)))) f n = absurd f.1.1.1.0
 each_form P call one other named third (Second (First (Pair (Node k o) _))) f n = absurd f.1.1.1
 each_form P call one other named third (Second (First (Pair _ y))) f n = absurd f.1.1.0

@@ -254,7 +254,8 @@ step_trait_path = found_step TraitPath refl refl
       (search),
       (
         ((λ us. refl) & (λ us. refl) & (λ us. refl) & (λ cs h us. refl) & (λ us. refl) & (λ us. refl) &
-            (λ us. refl) & (λ us. refl) & (λ cs h us. simp (ident_not (codes "for") cs reserved_for h) refl) & (λ us. refl) &
+            (λ us. refl) & (λ us. refl) & (λ cs h us. simp (ident_not (codes "for") cs reserved_for h) refl) &
+            (λ us. refl) &
             tt),
         tt,
       ),

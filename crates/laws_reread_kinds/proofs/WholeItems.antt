@@ -44,8 +44,65 @@ abbrev pub ItemEdge : Edge
 ItemEdge x s = IsItem (item_of x)
 
 pub_unseen : Told (at "pub") false item_classes
-pub_unseen =
-    (λ us. refl, (λ us. refl, (λ us. refl, (λ us. refl, (λ us. refl, (λ us. refl, (λ us. refl, (λ us. refl, (λ us. refl, (λ us. refl, (λ us. refl, (λ us. refl, (λ us. refl, (λ us. refl, (λ us. refl, (λ us. refl, ((λ cs h us. a_word_lacked (same_text (codes "pub") cs) us (ident_not (codes "pub") cs reserved_pub h)), (λ us. refl, (λ us. refl, (λ us. refl, (λ us. refl, tt)))))))))))))))))))))
+pub_unseen = (
+  λ us. refl,
+  (
+    λ us. refl,
+    (
+      λ us. refl,
+      (
+        λ us. refl,
+        (
+          λ us. refl,
+          (
+            λ us. refl,
+            (
+              λ us. refl,
+              (
+                λ us. refl,
+                (
+                  λ us. refl,
+                  (
+                    λ us. refl,
+                    (
+                      λ us. refl,
+                      (
+                        λ us. refl,
+                        (
+                          λ us. refl,
+                          (
+                            λ us. refl,
+                            (
+                              λ us. refl,
+                              (
+                                λ us. refl,
+                                (
+                                  (λ cs h us. a_word_lacked (same_text (codes "pub") cs) us
+                                      (ident_not (codes "pub") cs reserved_pub h)),
+                                  (
+                                    λ us. refl,
+                                    (
+                                      λ us. refl,
+                                      (λ us. refl, (λ us. refl, tt)),
+                                    ),
+                                  ),
+                                ),
+                              ),
+                            ),
+                          ),
+                        ),
+                      ),
+                    ),
+                  ),
+                ),
+              ),
+            ),
+          ),
+        ),
+      ),
+    ),
+  ),
+)
 
 fine_whole : Fine whole_item ItemEdge (At (others (starts AnItem)))
 unfolding skips

@@ -69,7 +69,8 @@ value_behind spacing cs ts us x a b q =
     subst P (sym v) (subst (IsBehindPath (Punct 61 spacing ∷ Literal cs ∷ [])) (sym q) (a_value spacing cs))
 
 -- the whole attribute
-pub meta_read : (ts us : List Token) (p x y : Tree) → IsNamed ts → IsReadIn 5 (Path InModule) ts p us → IsBehindPath us x
+pub meta_read : (ts us : List Token) (p x y : Tree) → IsNamed ts → IsReadIn 5 (Path InModule) ts p us
+    → IsBehindPath us x
     → y ≡ meta_of p x → IsReadIn 9 Meta ts y []
 unfolding table is_name is_path_keyword is_reserved
 meta_read ts us p x y h r b q =

@@ -27,7 +27,8 @@ opened P d f (Literal cs ∷ ts) h = absurd h
 opened P d f (Punct c spacing ∷ ts) h = absurd h
 
 others : (es : List Entry) (n : ℕ) → take (length es - (n + 1)) (drop (n + 1) es) ≡ drop (suc n) es
-others es n = take_all (length es - (n + 1)) (drop (n + 1) es) (omega (arith, length-drop (n + 1) es)) ∙ ap (λ k. drop k es) (add-one n)
+others es n = take_all (length es - (n + 1)) (drop (n + 1) es) (omega (arith, length-drop (n + 1) es))
+    ∙ ap (λ k. drop k es) (add-one n)
 
 enters : (d : Delimiter) (s : Span) (n : ℕ) (es : List Entry) → OfWhole d s n es
     → IsEntered d (Opens d ∷ tokens es) (tokens (take n es)) (tokens (drop (suc n) es))

@@ -9,7 +9,8 @@ use Rattle.syn_grammar.specs.Kind.{Delimited, Expression, Meta, OuterAttribute, 
 use Rattle.syn_grammar.specs.Look.{◌or◌}
 use Rattle.syn_grammar.specs.Name.{the_value}
 use Rattle.syn_grammar.specs.Run.{Got, Out, group_at, interp, run, whole}
-use Rattle.syn_grammar.specs.Say.{◌∶◌, ◌▸◌, when◌read◌else◌, brace, bracket, marks, optional, parenthesis, refused, sign}
+use Rattle.syn_grammar.specs.Say.{◌∶◌, ◌▸◌, when◌read◌else◌, brace, bracket, marks, optional, parenthesis, refused}
+use Rattle.syn_grammar.specs.Say.{sign}
 use Rattle.syn_grammar.specs.Tree.{Tree, AMark, Called, First, Group, Node, Pair, Raw, Second}
 use Rattle.reader_fast.specs.Lone.{lone_literal}
 

@@ -46,7 +46,8 @@ struct Group<'a> {
 fn enter<'a>(at: &'a [Entry<'a>]) -> Option<Group<'a>>
     requires { IsTrue (is_whole at.now) }
     ensures opens { IfSome result (λ o. IsOpened o.delimiter (tokens at.now)) }
-    ensures enters { IfSome result (λ o. IsEntered o.delimiter (tokens at.now) (tokens o.inside.now) (tokens o.behind.now)) }
+    ensures enters { IfSome result (λ o. IsEntered o.delimiter (tokens at.now) (tokens o.inside.now)
+        (tokens o.behind.now)) }
     ensures inside { IfSome result (λ o. IsTrue (is_whole o.inside.now)) }
     ensures behind { IfSome result (λ o. IsTrue (is_whole o.behind.now)) }
 {

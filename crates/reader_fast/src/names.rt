@@ -1,9 +1,11 @@
 //! Paths of names alone, and types that are such paths.
 
 ghost use Rattle.reader_tokens.specs.Tokens.{tokens};
-ghost use Rattle.reader_fast.specs.Names.{IsBegin, IsBehind, IsName, IsNamed, IsPassed, IsPathEnd, IsWholeBegin, IsWholeBehind};
+ghost use Rattle.reader_fast.specs.Names.{IsBegin, IsBehind, IsName, IsNamed, IsPassed, IsPathEnd, IsWholeBegin};
+ghost use Rattle.reader_fast.specs.Names.{IsWholeBehind};
 ghost use Rattle.reader_fast.specs.Names.{by_name, nothing_behind, others_behind, segments_of};
-ghost use Rattle.reader_fast.specs.Names.{further_segments as further, last_segment as alone, path_of, type_of, unqualified};
+ghost use Rattle.reader_fast.specs.Names.{further_segments as further, last_segment as alone, path_of, type_of};
+ghost use Rattle.reader_fast.specs.Names.{unqualified};
 ghost use Rattle.reader_fast.specs.Read.{IsReadIn};
 ghost use Rattle.reader_table.specs.Kinds.{plus_of, style_of};
 ghost use Rattle.proc_macro2.specs.Token as token;

@@ -34,7 +34,8 @@ pub fn grouped<'a>(
     inside: Tree<'a>,
     left: &[Entry<'_>],
 ) -> Result<Tree<'a>, Unmade<'a>>
-    ensures answer { (behind : List Token) → Groups behind result (whole delimiter behind (Got inside.entry (tokens left.now))) }
+    ensures answer { (behind : List Token) → Groups behind result (whole delimiter behind
+        (Got inside.entry (tokens left.now))) }
     ensures place { IfErr result (λ e. BeginsThere e left.now) }
     ensures read { IfErr result (λ e. HandsBack e inside.entry) }
 {

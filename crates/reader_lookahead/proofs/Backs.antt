@@ -335,7 +335,8 @@ by_behind p c s ts us vs a m e h g n i j =
 pub field_back : (p : k.Position) (c : ℕ) (s : Spacing) (ts us vs : List Token) → ts ≡ Punct c s ∷ us
     → s ≡ Alone → c ≡ 46 → Some vs ≡ past_literals ends_in_dot us → no_word vs → f.back p ts ≡ Some k.ExprField
 field_back p c s ts us vs e h g n w =
-    by_behind p c s ts us vs false false e h g n (no_word_first (λ cs. same_text (codes "await") cs) vs w) (no_call vs w)
+    by_behind p c s ts us vs false false e h g n (no_word_first (λ cs. same_text (codes "await") cs) vs w)
+    (no_call vs w)
   where
     no_call : (vs : List Token) → no_word vs → false ≡ sees calls vs
     no_call vs w = ap (λ x. seen (behind x (parenthesis or marks "::"))) (none_word is_ident vs w)

@@ -156,7 +156,8 @@ bar_front p c s ts us b e h g d =
     by_mark p c 124 s ts us e h g ∙ step p
     ∙ ap (λ x. cond (sees f.typed_closure_stands (Punct x Alone ∷ us)) (Some k.ExprTypedClosure) (Some k.ExprClosure))
     (sym g)
-    ∙ ap (λ x. cond (sees f.typed_closure_stands (Punct c x ∷ us)) (Some k.ExprTypedClosure) (Some k.ExprClosure)) (sym h)
+    ∙ ap (λ x. cond (sees f.typed_closure_stands (Punct c x ∷ us)) (Some k.ExprTypedClosure) (Some k.ExprClosure))
+    (sym h)
     ∙ ap (λ x. cond (sees f.typed_closure_stands x) (Some k.ExprTypedClosure) (Some k.ExprClosure)) (sym e)
     ∙ ap (λ x. cond x (Some k.ExprTypedClosure) (Some k.ExprClosure)) (sym d)
   where
@@ -187,7 +188,8 @@ and_front p c s ts us b e h g d =
 -- a closure has a type behind its parameters, where one stands behind two bars
 pub typed_so : (c : ℕ) (s : Spacing) (ts us : List Token) (b : Bool) → ts ≡ Punct c s ∷ us → s ≡ Alone → c ≡ 124
     → b ≡ sees (f.past_bar then f.past_bar then marks "->") ts → b ≡ sees f.typed_closure_stands ts
-typed_so c s ts us b e h g d = d ∙ ap (sees (f.past_bar then f.past_bar then marks "->")) is_bar ∙ ap (sees f.typed_closure_stands) (sym is_bar)
+typed_so c s ts us b e h g d = d ∙ ap (sees (f.past_bar then f.past_bar then marks "->")) is_bar
+    ∙ ap (sees f.typed_closure_stands) (sym is_bar)
   where
     is_bar : ts ≡ Punct 124 Alone ∷ us
     is_bar = e ∙ ap (λ x. Punct c x ∷ us) h ∙ ap (λ x. Punct x Alone ∷ us) g

@@ -26,7 +26,8 @@ use Rattle.reader_table.specs.declared.composite.Composite.{Composite}
 use Rattle.reader_table.specs.declared.composite.Composite.TheVariants as composites
 use Rattle.reader_lookahead.proofs.Reserved.{Kept, either_no, none_among}
 use Rattle.reader_lookahead.specs.Names.{call_begins, name_goes_on, signature_begins}
-use Rattle.reader_lookahead.specs.Words.{begins_pattern, closure_words, function_words, impl_words, may_begin_item, trait_words}
+use Rattle.reader_lookahead.specs.Words.{begins_pattern, closure_words, function_words, impl_words, may_begin_item}
+use Rattle.reader_lookahead.specs.Words.{trait_words}
 
 -- what stands first, by its kind
 pub no_mark_first : (c : ℕ) (ts : List Token) → no_mark ts → false ≡ sees (past_marks c []) ts
@@ -91,7 +92,8 @@ word_behind s w l ts us b c e h f g =
     g ∙ ap (λ x. seen (behind (cond x (Some us) None) l)) (sym f ∙ h) ∙ ap (sees (the_word s then l)) (sym e)
 
 -- whether a macro may be called: at no word, and at a word before a :: , before a ! , and before none
-pub call_none_first : (ts : List Token) (b : Bool) → no_word ts → b ≡ sees (past_marks 58 []) ts → b ≡ sees call_begins ts
+pub call_none_first : (ts : List Token) (b : Bool) → no_word ts → b ≡ sees (past_marks 58 []) ts → b
+    ≡ sees call_begins ts
 call_none_first ts b h e = e ∙ step ts h
   where
     alone : (o : Option (List Token)) → seen o ≡ seen (first_seen o None)
@@ -345,7 +347,8 @@ must_behind a l f ts g h = by (a ts) h
 
 pub signature_none : (ts : List Token) → sees signature_begins ts ≡ false
     → composite_of composites.SignatureStands ts ≡ None
-signature_none ts h = maybe_behind (at "const") _ (one_of function_words) ts (λ us e. by us (each_none function_words us e)) h
+signature_none ts h = maybe_behind (at "const") _ (one_of function_words) ts
+    (λ us e. by us (each_none function_words us e)) h
   where
     by : (us : List Token) → Each function_words us → (maybe (at "async") then maybe (at "unsafe")
         then maybe (at "extern" then maybe (a_quoted is_string)) then at "fn") us ≡ None
@@ -356,7 +359,8 @@ signature_none ts h = maybe_behind (at "const") _ (one_of function_words) ts (λ
 
 pub const_trait_none : (ts : List Token) → sees (at "const" then one_of trait_words) ts ≡ false
     → composite_of composites.ConstTrait ts ≡ None
-const_trait_none ts h = must_behind (at "const") _ (one_of trait_words) ts (λ us e. by us (each_none trait_words us e)) h
+const_trait_none ts h = must_behind (at "const") _ (one_of trait_words) ts (λ us e. by us (each_none trait_words us e))
+    h
   where
     by : (us : List Token) → Each trait_words us
         → (maybe (at "unsafe") then maybe (at "auto") then at "trait") us ≡ None

@@ -1,6 +1,7 @@
 //! What is said of tokens that could not be read.
 
-ghost use Rattle.reader_rust.specs.Said.{group_name, kind_name, literal_name, message, named, place, quoted, thing_text};
+ghost use Rattle.reader_rust.specs.Said.{group_name, kind_name, literal_name, message, named, place, quoted};
+ghost use Rattle.reader_rust.specs.Said.{thing_text};
 ghost use Rattle.reader_rust.specs.Said.{says_end, verdict_name, wanted_text, word_name};
 ghost use Rattle.std.specs.Prelude.{◌≡◌, IfOk, Some};
 ghost use Rattle.syn_error.specs.Notes.{Says};

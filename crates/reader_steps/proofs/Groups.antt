@@ -1,5 +1,6 @@
 -- Whole entries: what is left of them, and the groups among them, as a run of the grammar sees them.
-use Rattle.std.proofs.Common.{◌≡◌, ℕ, zero, suc, ◌+◌, ◌-◌, ◌<◌, ◌≤◌, List, [], ◌∷◌, ◌++◌, length, take, drop, refl, sym, ap, ◌∙◌, arith}
+use Rattle.std.proofs.Common.{◌≡◌, ℕ, zero, suc, ◌+◌, ◌-◌, ◌<◌, ◌≤◌, List, [], ◌∷◌, ◌++◌, length, take, drop, refl, sym}
+use Rattle.std.proofs.Common.{ap, ◌∙◌, arith}
 use Rattle.std.proofs.Common.{add-one, add-one, append_assoc, length-drop, length-take}
 use Rattle.std.proofs.lemmas.List.{append-nil, take_all}
 use Rattle.std.specs.Prelude.{Bool, true, false, ◌&&◌, not, cond}
@@ -56,7 +57,8 @@ parts d s zero (entry.Punct p ∷ es) h = cc
 parts d s zero (entry.Literal l ∷ es) h = cc
 parts d s (suc n) (e ∷ es) h = ap (λ ts. entry_token e ∷ ts) (parts d s n es h)
 
-stands_within : (d : Delimiter) (s : Span) (n : ℕ) (es : List Entry) → closes_with d s (drop n es) ≡ true → n < length es
+stands_within : (d : Delimiter) (s : Span) (n : ℕ) (es : List Entry) → closes_with d s (drop n es) ≡ true
+    → n < length es
 stands_within d s zero [] h = cc
 stands_within d s (suc n) [] h = cc
 stands_within d s zero (e ∷ es) h = omega arith
@@ -91,11 +93,13 @@ unfolding split
 split_inside xs d us b = (neutral_raw xs b).by 0 (Closes d ∷ us) ∙ ap (λ ts. Inside ts d us) (append-nil xs)
 
 -- what is left behind a literal
-pub behind_literal : (l : Bor Literals.Literal) (es : List Entry) → is_whole (entry.Literal l ∷ es) ≡ true → is_whole es ≡ true
+pub behind_literal : (l : Bor Literals.Literal) (es : List Entry) → is_whole (entry.Literal l ∷ es) ≡ true → is_whole es
+    ≡ true
 behind_literal l es h = (and_true (not (starts_with_minus (literal_text l.now))) _ h).1
 
 -- a group that opens: so many entries stand inside, those are whole, and so are the others behind it
-pub within : (d : Delimiter) (s : Span) (n : ℕ) (es : List Entry) → is_whole (entry.Open d s n ∷ es) ≡ true → n < length es
+pub within : (d : Delimiter) (s : Span) (n : ℕ) (es : List Entry) → is_whole (entry.Open d s n ∷ es) ≡ true
+    → n < length es
 within d s n es h = stands_within d s n es (and_true (closes_with d s (drop n es)) _ h).0
 
 pub inside_whole : (d : Delimiter) (s : Span) (n : ℕ) (es : List Entry) → is_whole (entry.Open d s n ∷ es) ≡ true
@@ -129,7 +133,8 @@ group_enters d s n es h f =
 
 -- what a slice of the others is
 pub others : (es : List Entry) (n : ℕ) → take (length es - (n + 1)) (drop (n + 1) es) ≡ drop (suc n) es
-others es n = take_all (length es - (n + 1)) (drop (n + 1) es) (omega (arith, length-drop (n + 1) es)) ∙ ap (λ k. drop k es) (add-one n)
+others es n = take_all (length es - (n + 1)) (drop (n + 1) es) (omega (arith, length-drop (n + 1) es))
+    ∙ ap (λ k. drop k es) (add-one n)
 
 module _ (wanted : Delimiter) (at es : List Entry) (e : Entry) (d : Delimiter) (s : Span) (n : ℕ) where
   opens : at ≡ e ∷ es → e ≡ entry.Open d s n → at ≡ entry.Open d s n ∷ es

@@ -6,8 +6,10 @@ use Rattle.syn_grammar.specs.Kind.{Kind, Position}
 use Rattle.syn_grammar.specs.Tree.{Tree, Alone, Front, Back, Infix}
 use Rattle.syn_grammar.specs.Gram.{Gram}
 use Rattle.syn_grammar.specs.Table.{table}
-use Rattle.syn_grammar.specs.Forms.{front, back, has_right, level, inside, chains, goes_on, stands_left, takes, takes_kind}
-use Rattle.syn_grammar.specs.Run.{Call, Out, Late, Refused, Got, ◌>>=◌, tower, climb, kind, interp, run, front_right, back_right, from_front, from_back, wrap}
+use Rattle.syn_grammar.specs.Forms.{front, back, has_right, level, inside, chains, goes_on, stands_left, takes}
+use Rattle.syn_grammar.specs.Forms.{takes_kind}
+use Rattle.syn_grammar.specs.Run.{Call, Out, Late, Refused, Got, ◌>>=◌, tower, climb, kind, interp, run, front_right}
+use Rattle.syn_grammar.specs.Run.{back_right, from_front, from_back, wrap}
 use Rattle.syn_grammar.specs.Tree.{Node}
 use Rattle.reader_steps.specs.Answers.{Fails, IsSyntax}
 use Rattle.reader_steps.specs.Operands.{right_of, own_of, begun_at, begun, extended}
@@ -57,7 +59,8 @@ module _ (m : ℕ) (p : Position) (n : ℕ) where
 
   pub tower_fails : (e : Refusal) (i : ℕ) (ts : List Token) → i ≡ suc m → Fails e (begun (run m) p ts)
       → Fails e (run i (tower p n) ts)
-  tower_fails e i ts s f = fails_as e (begun (run m) p ts >>= on) (run i (tower p n) ts) (tower_read i ts s) (fails_on e (begun (run m) p ts) on f)
+  tower_fails e i ts s f = fails_as e (begun (run m) p ts >>= on) (run i (tower p n) ts) (tower_read i ts s)
+      (fails_on e (begun (run m) p ts) on f)
 
   pub tower_goes : (i : ℕ) (ts us : List Token) (x : Tree) → i ≡ suc m → begun (run m) p ts ≡ Got x us
       → run i (tower p n) ts ≡ run m (climb p n x) us
@@ -128,36 +131,39 @@ pub fit : (p : Position) (n : ℕ) (l : Tree) (k : Kind) (ts : List Token) → b
 fit p n l k ts e h i = ap (takes_kind p n l) e ∙ ap (λ b. b && stands_left p l k) h ∙ i
 
 -- an own part, and its operand
-module _ (call : Call → List Token → Out) (alone : Tree → Tree) (both : Tree → Tree → Tree) (p : Position) (k : Kind) where
-  own_as : (g : Gram) (ts : List Token) → g ≡ table k → own_of call alone both p k ts
-      ≡ (interp call g ts >>= λ y us. right_of call alone both p k y us (has_right p k us))
-  own_as g ts e = ap (λ g. interp call g ts >>= λ y us. right_of call alone both p k y us (has_right p k us)) (sym e)
+module _ (call : Call → List Token → Out) (alone : Tree → Tree) (both : Tree → Tree → Tree) (p : Position) (k : Kind)
+  where
+    own_as : (g : Gram) (ts : List Token) → g ≡ table k → own_of call alone both p k ts
+        ≡ (interp call g ts >>= λ y us. right_of call alone both p k y us (has_right p k us))
+    own_as g ts e = ap (λ g. interp call g ts >>= λ y us. right_of call alone both p k y us (has_right p k us)) (sym e)
 
-  pub own_fails : (e : Refusal) (g : Gram) (ts : List Token) → g ≡ table k → Fails e (interp call g ts)
-      → Fails e (own_of call alone both p k ts)
-  own_fails e g ts s f = fails_as e _ (own_of call alone both p k ts) (own_as g ts s) (fails_on e (interp call g ts) _ f)
+    pub own_fails : (e : Refusal) (g : Gram) (ts : List Token) → g ≡ table k → Fails e (interp call g ts)
+        → Fails e (own_of call alone both p k ts)
+    own_fails e g ts s f = fails_as e _ (own_of call alone both p k ts) (own_as g ts s)
+        (fails_on e (interp call g ts) _ f)
 
-  own_got : (g : Gram) (y : Tree) (ts us : List Token) (b : Bool) → g ≡ table k → interp call g ts ≡ Got y us
-      → has_right p k us ≡ b → own_of call alone both p k ts ≡ right_of call alone both p k y us b
-  own_got g y ts us b s e h =
-      own_as g ts s ∙ ap (λ o. o >>= λ y us. right_of call alone both p k y us (has_right p k us)) e
-      ∙ ap (right_of call alone both p k y us) h
+    own_got : (g : Gram) (y : Tree) (ts us : List Token) (b : Bool) → g ≡ table k → interp call g ts ≡ Got y us
+        → has_right p k us ≡ b → own_of call alone both p k ts ≡ right_of call alone both p k y us b
+    own_got g y ts us b s e h =
+        own_as g ts s ∙ ap (λ o. o >>= λ y us. right_of call alone both p k y us (has_right p k us)) e
+        ∙ ap (right_of call alone both p k y us) h
 
-  pub own_alone : (g : Gram) (y : Tree) (ts us : List Token) → g ≡ table k → interp call g ts ≡ Got y us
-      → has_right p k us ≡ false → own_of call alone both p k ts ≡ Got (alone y) us
-  own_alone g y ts us s e h = own_got g y ts us false s e h
+    pub own_alone : (g : Gram) (y : Tree) (ts us : List Token) → g ≡ table k → interp call g ts ≡ Got y us
+        → has_right p k us ≡ false → own_of call alone both p k ts ≡ Got (alone y) us
+    own_alone g y ts us s e h = own_got g y ts us false s e h
 
-  pub own_both : (g : Gram) (y x : Tree) (ts us vs : List Token) → g ≡ table k → interp call g ts ≡ Got y us
-      → has_right p k us ≡ true → call (tower (inside p k) (level k)) us ≡ Got x vs
-      → own_of call alone both p k ts ≡ Got (both y x) vs
-  own_both g y x ts us vs s e h i = own_got g y ts us true s e h ∙ ap (λ o. o >>= λ x vs. Got (both y x) vs) i
+    pub own_both : (g : Gram) (y x : Tree) (ts us vs : List Token) → g ≡ table k → interp call g ts ≡ Got y us
+        → has_right p k us ≡ true → call (tower (inside p k) (level k)) us ≡ Got x vs
+        → own_of call alone both p k ts ≡ Got (both y x) vs
+    own_both g y x ts us vs s e h i = own_got g y ts us true s e h ∙ ap (λ o. o >>= λ x vs. Got (both y x) vs) i
 
-  pub own_right_fails : (f : Refusal) (g : Gram) (y : Tree) (ts us : List Token) → g ≡ table k
-      → interp call g ts ≡ Got y us → has_right p k us ≡ true → Fails f (call (tower (inside p k) (level k)) us)
-      → Fails f (own_of call alone both p k ts)
-  own_right_fails f g y ts us s e h i =
-      fails_as f (right_of call alone both p k y us true) (own_of call alone both p k ts) (own_got g y ts us true s e h)
-      (fails_on f (call (tower (inside p k) (level k)) us) _ i)
+    pub own_right_fails : (f : Refusal) (g : Gram) (y : Tree) (ts us : List Token) → g ≡ table k
+        → interp call g ts ≡ Got y us → has_right p k us ≡ true → Fails f (call (tower (inside p k) (level k)) us)
+        → Fails f (own_of call alone both p k ts)
+    own_right_fails f g y ts us s e h i =
+        fails_as f (right_of call alone both p k y us true) (own_of call alone both p k ts)
+        (own_got g y ts us true s e h)
+        (fails_on f (call (tower (inside p k) (level k)) us) _ i)
 
 begun_is : (call : Call → List Token → Out) (p : Position) (k : Kind) (ts : List Token) → front p ts ≡ Some k
     → begun call p ts ≡ own_of call (Alone k) (Front k) p k ts

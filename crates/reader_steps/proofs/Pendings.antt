@@ -1,5 +1,6 @@
 -- What is made of what was read by all that is pending, one by one.
-use Rattle.std.proofs.Common.{◌≡◌, ℕ, ◌+◌, ◌<◌, ◌≤◌, List, [], ◌∷◌, ◌++◌, length, take, drop, refl, sym, ap, ◌∙◌, append_assoc, arith}
+use Rattle.std.proofs.Common.{◌≡◌, ℕ, ◌+◌, ◌<◌, ◌≤◌, List, [], ◌∷◌, ◌++◌, length, take, drop, refl, sym, ap, ◌∙◌}
+use Rattle.std.proofs.Common.{append_assoc, arith}
 use Rattle.std.proofs.lemmas.List.{append-nil, drop-append-le, length-append, take-append-le, take_all}
 use Rattle.std.proofs.Math.ListN.{drop_of_length-le}
 use Rattle.std.proofs.Math.Seq.{drop-append_seam, take-append_seam}
@@ -91,7 +92,8 @@ at_step n is parts i j ts e f = ap (λ is. interp (run n) (gram_of is) ts) (e �
 
 -- where so much is pending already, and makes the whole of what steps say
 module _ (old mid ws : List Pending) (p q : Out) (e : mid ≡ old ++ ws) (i : q ≡ made_by_all ws p) where
-  pub ends : {X : Type 0} (tree : X → Tree) (rest : X → List Entry) (new : List Pending) (r : Result X Refusal) (o : Out)
+  pub ends : {X : Type 0} (tree : X → Tree) (rest : X → List Entry) (new : List Pending) (r : Result X Refusal)
+      (o : Out)
       → p ≡ o → new ≡ mid → Gives tree rest r o → Leads (λ x. Got (tree x) (tokens (rest x))) old new r q
   ends tree rest new r o s f h =
       leads_on (λ x. Got (tree x) (tokens (rest x))) old mid new ws r o q e (sym (i ∙ ap (made_by_all ws) s))

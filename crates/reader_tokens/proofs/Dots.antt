@@ -3,7 +3,8 @@ use Rattle.std.proofs.Common.{◌≡◌, ℕ, ◌+◌, ◌*◌, ◌<◌, ◌≤�
 use Rattle.std.specs.Prelude.{Bool, true, false, ◌&&◌, ◌==◌, ◌⊎◌, nat_lt, if◌then◌else◌, Option, Some, None}
 use Rattle.std.proofs.lemmas.Bool.Decides.{nat_tests}
 use Rattle.std.proofs.lemmas.Bool.{eqb-true, ne_eqb}
-use Rattle.syn_grammar.specs.Words.{based_number, before_dot, behind_dots, digit, indices, indices_to_dot, integer, is_below}
+use Rattle.syn_grammar.specs.Words.{based_number, before_dot, behind_dots, digit, indices, indices_to_dot, integer}
+use Rattle.syn_grammar.specs.Words.{is_below}
 use Rattle.syn_grammar.specs.Words.{is_index, last_is_dot, number_behind, texts_of}
 use Rattle.reader_tokens.specs.Texts.{IsFrom, Reads}
 use Rattle.reader_tokens.proofs.Numbers.{next_digit, next_line, wrong_digit}

@@ -8,7 +8,8 @@ use Rattle.std.proofs.lemmas.Str.{encodes-chars}
 pub same_first : (cs bs ws : List ℕ) (own : ℕ) → IsUtf8 bs → cs ≡ chars bs → ws ≡ bs → 1 ≤ length ws
     → take 1 (encode_utf8_all cs) ≡ own ∷ [] → own ≡ slice_index_or ws 0 0
 same_first cs bs ws own u e v filled f =
-    first ws filled (sym f ∙ ap (λ x. take 1 (encode_utf8_all x)) e ∙ ap (take 1) (encodes-chars bs u) ∙ ap (take 1) (sym v))
+    first ws filled (sym f ∙ ap (λ x. take 1 (encode_utf8_all x)) e ∙ ap (take 1) (encodes-chars bs u)
+    ∙ ap (take 1) (sym v))
   where
     first : (ws : List ℕ) → 1 ≤ length ws → own ∷ [] ≡ take 1 ws → own ≡ slice_index_or ws 0 0
     first [] filled h = absurd (omega arith)

@@ -129,4 +129,5 @@ taken_all (suc k) (e ∷ es) h = ap (λ x. e ∷ x) (taken_all k es (omega arith
 
 pub nested_behind : (n : ℕ) (es : List Entry) → is_nested es ≡ true
     → is_nested (take (length es - n) (drop n es)) ≡ true
-nested_behind n es h = ap is_nested (taken_all (length es - n) (drop n es) (omega (arith, length-drop n es))) ∙ nested_drop n es h
+nested_behind n es h = ap is_nested (taken_all (length es - n) (drop n es) (omega (arith, length-drop n es)))
+    ∙ nested_drop n es h

@@ -49,7 +49,8 @@ other_spaced c d cs spacing ts us b e f g = ap (mark_at c cs) e ∙ step cs spac
 
 -- the last one does
 pub last_spaced : (c d : ℕ) (cs : List ℕ) (spacing s : Spacing) (ts us : List Token) (b : Bool)
-    → length cs ≡ 0 → ts ≡ Punct d spacing ∷ us → b ≡ (d == c) → b ≡ true → s ≡ spacing → mark_at c cs ts ≡ Got (AMark c cs s) us
+    → length cs ≡ 0 → ts ≡ Punct d spacing ∷ us → b ≡ (d == c) → b ≡ true → s ≡ spacing → mark_at c cs ts
+    ≡ Got (AMark c cs s) us
 unfolding mark_at
 last_spaced c d (k ∷ ks) spacing s ts us b n e f g h = cc
 last_spaced c d [] spacing s ts us b n e f g h =

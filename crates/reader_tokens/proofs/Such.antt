@@ -42,7 +42,8 @@ among_passes b n p (w ∷ ws) cs k h a f l =
     by false e others = others e
     by true e others =
         let is : w ≡ cs = (bytes_eq-Decides w cs).0 e in
-        let same : encode_utf8_all cs ≡ w = ap encode_utf8_all (sym is) ∙ (bytes_eq-Decides (encode_utf8_all w) w).0 ks.0 in
+        let same : encode_utf8_all cs ≡ w = ap encode_utf8_all (sym is)
+        ∙ (bytes_eq-Decides (encode_utf8_all w) w).0 ks.0 in
         ap p (sym is) ∙ word_passes b n p w hs.0 (sym (ap (take 1) same) ∙ f) (l ∙ ap length same)
 
 passes : (b n : ℕ) (p : List ℕ → Bool) (cs : List ℕ) → list_all (is_such b n p) reserved ≡ true
@@ -102,7 +103,8 @@ pub such : (b n : ℕ) (one other cs : List ℕ) (r : Bool)
     → r ≡ is_either (chars one) (chars other) cs → r ≡ is_reserved cs
 such b n one other cs r h k f l e =
     e ∙ ap (λ x. is_either x (chars other) cs) (spelt one ks.0) ∙ ap (λ x. is_either one x cs) (spelt other ks.1)
-    ∙ one_way (is_either one other cs) (is_reserved cs) (is_kept one other cs k) (passes b n (is_either one other) cs h f l)
+    ∙ one_way (is_either one other cs) (is_reserved cs) (is_kept one other cs k)
+    (passes b n (is_either one other) cs h f l)
   where
     ks : (is_reserved one ≡ true) × (is_reserved other ≡ true)
     ks = both (is_reserved one) (is_reserved other) k

@@ -24,7 +24,8 @@ use syn_buffer::entry::Entry;
 /// The mark that stands first, and what is left behind it.
 #[tactic(auto, using(crate::proofs::Nested::nested_first, crate::proofs::Spaced::whole_behind))]
 pub fn first_mark<'a, 'e>(at: &'a [Entry<'e>]) -> Option<(&'e Punct, &'a [Entry<'e>])>
-    ensures some { IfSome result (λ r. tokens at.now ≡ token.Punct (punct_char r.0.now) (punct_spacing r.0.now) ∷ tokens r.1.now) }
+    ensures some { IfSome result (λ r. tokens at.now ≡ token.Punct (punct_char r.0.now) (punct_spacing r.0.now) ∷ tokens
+        r.1.now) }
     ensures none { IfNone result (no_mark (tokens at.now)) }
     ensures nested { is_nested at.now ≡ true → IfSome result (λ r. is_nested r.1.now ≡ true) }
     ensures whole { is_whole at.now ≡ true → IfSome result (λ r. is_whole r.1.now ≡ true) }

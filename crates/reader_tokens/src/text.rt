@@ -1,10 +1,13 @@
 //! Texts of literals.
 
-ghost use Rattle.std.specs.Prelude.{◌*◌, ◌+◌, ◌<◌, ◌≡◌, ◌≤◌, ◌∷◌, ◌⊎◌, [], IfNone, IfSome, false, length, nat_lt, option_map, true};
+ghost use Rattle.std.specs.Prelude.{◌*◌, ◌+◌, ◌<◌, ◌≡◌, ◌≤◌, ◌∷◌, ◌⊎◌, [], IfNone, IfSome, false, length, nat_lt};
+ghost use Rattle.std.specs.Prelude.{option_map, true};
 ghost use Rattle.reader_tokens.specs.Texts.{Reads};
 ghost use Rattle.std.specs.Str.{chars};
-ghost use Rattle.syn_grammar.specs.Words.{are_indices, based_number, before_dot, behind_dots, digit, ends_in_dot, indices_to_dot, integer};
-ghost use Rattle.syn_grammar.specs.Words.{is_below, is_digit, is_index, is_number, is_string, last_is_dot, number_behind};
+ghost use Rattle.syn_grammar.specs.Words.{are_indices, based_number, before_dot, behind_dots, digit, ends_in_dot};
+ghost use Rattle.syn_grammar.specs.Words.{indices_to_dot, integer};
+ghost use Rattle.syn_grammar.specs.Words.{is_below, is_digit, is_index, is_number, is_string, last_is_dot};
+ghost use Rattle.syn_grammar.specs.Words.{number_behind};
 
 /// The first character of a text, and what is left behind it; none of no text.
 #[tactic(auto, using(crate::proofs::Characters::first_so, crate::proofs::Characters::none_left))]

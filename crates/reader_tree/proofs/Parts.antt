@@ -19,7 +19,8 @@ pub found_turns : (p : Part) (xs : List Tree) → found p (turns xs) ≡ None
 found_turns p [] = refl
 found_turns p (x ∷ xs) = refl
 
-pub found_elements : {A : Type 0} (p : Part) (c : ℕ) (es : List Element) (f : A → Tree) (o : Option A) → found p (elements c es (ending f o)) ≡ None
+pub found_elements : {A : Type 0} (p : Part) (c : ℕ) (es : List Element) (f : A → Tree) (o : Option A)
+    → found p (elements c es (ending f o)) ≡ None
 found_elements p c [] f None = refl
 found_elements p c [] f (Some y) = refl
 found_elements p c (e ∷ es) f o = refl
@@ -36,7 +37,8 @@ pub choice_turns : (xs : List Tree) → choice (turns xs) ≡ turns xs
 choice_turns [] = refl
 choice_turns (x ∷ xs) = refl
 
-pub choice_elements : {A : Type 0} (c : ℕ) (es : List Element) (f : A → Tree) (o : Option A) → choice (elements c es (ending f o)) ≡ elements c es (ending f o)
+pub choice_elements : {A : Type 0} (c : ℕ) (es : List Element) (f : A → Tree) (o : Option A)
+    → choice (elements c es (ending f o)) ≡ elements c es (ending f o)
 choice_elements c [] f None = refl
 choice_elements c [] f (Some y) = refl
 choice_elements c (e ∷ es) f o = refl

@@ -21,6 +21,7 @@ seconds_less zero x h = absurd (h refl)
 seconds_less (suc n) x h = let e : suc n - 1 ≡ n = omega arith in rw e refl
 
 pub seconds_halved : (h n : ℕ) (x : Tree) → h ≤ n → seconds (n - h) (seconds h x) ≡ seconds n x
-seconds_halved h n x le = let e : h + (n - h) ≡ n = omega (arith, le) in sym (seconds_sum h (n - h) x) ∙ ap (λ k. seconds k x) e
+seconds_halved h n x le = let e : h + (n - h) ≡ n = omega (arith, le) in sym (seconds_sum h (n - h) x)
+    ∙ ap (λ k. seconds k x) e
 
 pub ruleset seconds_again = (seconds_sum, seconds_inside, seconds_less)

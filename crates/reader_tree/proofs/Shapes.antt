@@ -22,7 +22,8 @@ pub single_turns : (xs : List Tree) → single (turns xs) ≡ t.Nil
 single_turns [] = refl
 single_turns (x ∷ xs) = refl
 
-pub single_elements : {A : Type 0} (c : ℕ) (es : List Element) (f : A → Tree) (o : Option A) → single (elements c es (ending f o)) ≡ t.Nil
+pub single_elements : {A : Type 0} (c : ℕ) (es : List Element) (f : A → Tree) (o : Option A)
+    → single (elements c es (ending f o)) ≡ t.Nil
 single_elements c [] f None = refl
 single_elements c [] f (Some y) = refl
 single_elements c (e ∷ es) f o = refl
@@ -37,7 +38,8 @@ pub chosen_turns : (xs : List Tree) → chosen (turns xs) ≡ t.Nil
 chosen_turns [] = refl
 chosen_turns (x ∷ xs) = refl
 
-pub chosen_elements : {A : Type 0} (c : ℕ) (es : List Element) (f : A → Tree) (o : Option A) → chosen (elements c es (ending f o)) ≡ t.Nil
+pub chosen_elements : {A : Type 0} (c : ℕ) (es : List Element) (f : A → Tree) (o : Option A)
+    → chosen (elements c es (ending f o)) ≡ t.Nil
 chosen_elements c [] f None = refl
 chosen_elements c [] f (Some y) = refl
 chosen_elements c (e ∷ es) f o = refl
@@ -73,7 +75,8 @@ pub turns_mark : (cs : List ℕ) (spacing : Spacing) → is_turns (mark_of cs sp
 turns_mark [] spacing = refl
 turns_mark (c ∷ cs) spacing = refl
 
-pub turns_elements : {A : Type 0} (c : ℕ) (es : List Element) (f : A → Tree) (o : Option A) → is_turns (elements c es (ending f o)) ≡ false
+pub turns_elements : {A : Type 0} (c : ℕ) (es : List Element) (f : A → Tree) (o : Option A)
+    → is_turns (elements c es (ending f o)) ≡ false
 turns_elements c [] f None = refl
 turns_elements c [] f (Some y) = refl
 turns_elements c (e ∷ es) f o = refl

@@ -126,7 +126,8 @@ had_back (t.Whole x) ps s = had_back x (AWhole ∷ ps) s
 had_back (t.Alone k x) ps s = had_back x (AAlone k ∷ ps) s
 had_back (t.Pair x y) ps s = had_back x (onto y (APair ∷ ps)) s ∙ had_back y (APair ∷ ps) (x ∷ s)
 had_back (t.Again x y) ps s = had_back x (onto y (AAgain ∷ ps)) s ∙ had_back y (AAgain ∷ ps) (x ∷ s)
-had_back (t.More x c spacing y) ps s = had_back x (onto y (AMore c spacing ∷ ps)) s ∙ had_back y (AMore c spacing ∷ ps) (x ∷ s)
+had_back (t.More x c spacing y) ps s = had_back x (onto y (AMore c spacing ∷ ps)) s
+    ∙ had_back y (AMore c spacing ∷ ps) (x ∷ s)
 had_back (t.Front k x y) ps s = had_back x (onto y (AFront k ∷ ps)) s ∙ had_back y (AFront k ∷ ps) (x ∷ s)
 had_back (t.Back x k y) ps s = had_back x (onto y (ABack k ∷ ps)) s ∙ had_back y (ABack k ∷ ps) (x ∷ s)
 had_back (t.Infix x k y z) ps s =

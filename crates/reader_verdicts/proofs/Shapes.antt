@@ -5,7 +5,8 @@ use Rattle.syn_grammar.specs.Kind.{Kind}
 use Rattle.syn_grammar.specs.Tree.{Tree, Pair, Node, Alone, Front}
 use Rattle.reader_tree.specs.Shapes.{node_of, pair_of, alone_of, front_of}
 
-same_pair : {A B : Type 0} (a c : A) (b d : B) → ◌≡◌ {A = Option (A × B)} (Some (a, b)) (Some (c, d)) → (a ≡ c) × (b ≡ d)
+same_pair : {A B : Type 0} (a c : A) (b d : B) → ◌≡◌ {A = Option (A × B)} (Some (a, b)) (Some (c, d)) → (a ≡ c)
+    × (b ≡ d)
 same_pair {A = A} {B = B} a c b d e =
     let p : A × B = (a, b) in
     let r : A × B = (c, d) in

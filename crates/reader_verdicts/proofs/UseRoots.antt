@@ -1,5 +1,6 @@
 -- Whether a tree of a use has a root, by its form.
-use Rattle.std.specs.Prelude.{◌≡◌, ◌≢◌, ◌-◌, ℕ, zero, suc, Bool, true, false, ◌||◌, List, [], ◌∷◌, Option, Some, None, refl}
+use Rattle.std.specs.Prelude.{◌≡◌, ◌≢◌, ◌-◌, ℕ, zero, suc, Bool, true, false, ◌||◌, List, [], ◌∷◌, Option, Some, None}
+use Rattle.std.specs.Prelude.{refl}
 use Rattle.std.specs.List.{list_any}
 use Rattle.std.proofs.Common.{ap, ◌∙◌, sym, arith}
 use Rattle.rust_leaf.specs.declared.punct.Spacing.{Spacing}
@@ -128,7 +129,8 @@ pub no_top : (f : Form) → ((n : ℕ) (x : Bor Tree) → f ≡ forms.First n x 
     → ((n : ℕ) (x : Bor Tree) → f ≡ forms.Second n x → ⊥) → false ≡ has_root (Node UseTop (tree_of f))
 no_top (forms.Mark s spacing span) h i = sym (top_mark (sign_text s) spacing)
 no_top (forms.Turns v) h i = sym (top_turns v.now.each.now)
-no_top (forms.Elements x) h i = sym (top_elements (separator_of x.now.separator) x.now.before.now (λ b. b.now) x.now.last)
+no_top (forms.Elements x) h i = sym (top_elements (separator_of x.now.separator) x.now.before.now (λ b. b.now)
+    x.now.last)
 no_top (forms.First n x) h i = absurd (h n x refl)
 no_top (forms.Second n x) h i = absurd (i n x refl)
 no_top f h i = refl
@@ -137,6 +139,7 @@ pub no_rooted : (f : Form) → ((n : ℕ) (x : Bor Tree) → f ≡ forms.First n
     → false ≡ has_root (Node UseRooted (tree_of f))
 no_rooted (forms.Mark s spacing span) h = sym (rooted_mark (sign_text s) spacing)
 no_rooted (forms.Turns v) h = sym (rooted_turns v.now.each.now)
-no_rooted (forms.Elements x) h = sym (rooted_elements (separator_of x.now.separator) x.now.before.now (λ b. b.now) x.now.last)
+no_rooted (forms.Elements x) h = sym (rooted_elements (separator_of x.now.separator) x.now.before.now (λ b. b.now)
+    x.now.last)
 no_rooted (forms.First n x) h = absurd (h n x refl)
 no_rooted f h = refl

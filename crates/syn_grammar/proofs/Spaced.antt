@@ -90,7 +90,8 @@ closes_any (Literal cs) d r h = h
 closes_any (Punct c spacing) d r h = closes_mark c spacing (c == quote) d r refl h
 
 -- the inside of a group is well spaced by itself
-pub cut : (ts : List Token) (d : Delimiter) (r : List Token) → IsWellSpaced (ts ++ Closes d ∷ r) → IsWellSpaced (ts ++ [])
+pub cut : (ts : List Token) (d : Delimiter) (r : List Token) → IsWellSpaced (ts ++ Closes d ∷ r)
+    → IsWellSpaced (ts ++ [])
 cut [] d r w = tt
 cut (t ∷ []) d r w = (closes_any t d r w.0, tt)
 cut (t ∷ u ∷ ts) d r w = (sym (next_any t u (ts ++ Closes d ∷ r) (ts ++ [])) ∙ w.0, cut (u ∷ ts) d r w.1)

@@ -24,7 +24,8 @@ use Rattle.syn_tokens.specs.Places.{outer_tokens, placed, placed_piece}
 use Rattle.syn_tokens.specs.declared.tokens.Outer.{Outer}
 
 -- behind a tree by itself the rest may stand
-pub leaf_stands : (ds : List Delimiter) (t : Token) (ts : List Token) → is_leaf t ≡ true → stand ds (t ∷ ts) ≡ stand ds ts
+pub leaf_stands : (ds : List Delimiter) (t : Token) (ts : List Token) → is_leaf t ≡ true → stand ds (t ∷ ts)
+    ≡ stand ds ts
 leaf_stands ds (Opens d) ts h = cc
 leaf_stands ds (Closes d) ts h = cc
 leaf_stands ds (Ident cs) ts h = refl
@@ -173,7 +174,8 @@ leaf_refused ds (Punct c spacing) ts h n m = ap (λ b. b && stand ds ts) h
 
 -- behind what opens a group, and behind a tree by itself, each stands where it is said
 pub opens_placed : (old new : List Spanned) (ss ts : List Span) (d : Delimiter) (s : Span) (ps : List Piece)
-    → new ≡ old ++ spanned (Opens d) s ∷ [] → ts ≡ s ∷ ss → new ++ placed ts ps ≡ old ++ placed ss (pieces.Open d s ∷ ps)
+    → new ≡ old ++ spanned (Opens d) s ∷ [] → ts ≡ s ∷ ss → new ++ placed ts ps ≡ old
+    ++ placed ss (pieces.Open d s ∷ ps)
 opens_placed old new ss ts d s ps e f =
     ap (λ xs. xs ++ placed ts ps) e ∙ append_assoc old (spanned (Opens d) s ∷ []) (placed ts ps)
     ∙ ap (λ us. old ++ spanned (Opens d) s ∷ placed us ps) f
@@ -229,7 +231,8 @@ pub put_all : (all : List Spanned) (ps : List Piece) → all ≡ placed [] ps �
 put_all all ps e = ap plain e ∙ all_placed [] ps
 
 -- one token more has been put
-pub put_more : (all : List Piece) (i : ℕ) (p : Piece) (old new put : List Spanned) (ss ts : List Span) → p ≡ get_or all i p
+pub put_more : (all : List Piece) (i : ℕ) (p : Piece) (old new put : List Spanned) (ss ts : List Span) → p
+    ≡ get_or all i p
     → i < length all → ((ps : List Piece) → new ++ placed ts ps ≡ old ++ placed ss (p ∷ ps))
     → old ++ placed ss (drop i all) ≡ put → new ++ placed ts (drop (i + 1) all) ≡ put
 put_more all i p old new put ss ts is below on h =

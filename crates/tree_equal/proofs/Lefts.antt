@@ -86,7 +86,14 @@ behind n m x y b h v = (
 
 behind_count : (n m : ℕ) (x y b : Tree) → m < n → t.Second (seconds m y) ≡ b
     → both_count (seconds (n - m - 1) x) y ≤ both_count (seconds n x) b
-behind_count n m x y b h v = omega (arith, count_seconds n x, count_seconds (n - m - 1) x, count_seconds m y, ap node_count v)
+behind_count n m x y b h v = omega (
+  arith,
+  count_seconds n x,
+  count_seconds (n - m - 1) x,
+  count_seconds m y,
+  ap
+      node_count v,
+)
 
 pub first_behind : (n m : ℕ) (x y b : Tree) (r : Rest) → m < n → t.Second (seconds m y) ≡ b
     → IsLeft (seconds (n - m - 1) (t.First x)) y r → IsLeft (seconds n (t.First x)) b r

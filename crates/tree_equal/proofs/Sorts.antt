@@ -107,7 +107,8 @@ pub no_literal : (f : Form) → ((l : _) → f ≡ forms.Literal l → ⊥) → 
 no_literal (forms.Literal l) h e = h l refl
 no_literal f h e = cc
 
-pub no_mark : (f : Form) → ((s : _) (spacing : _) (span : _) → f ≡ forms.Mark s spacing span → ⊥) → form_sort f ≡ AMark → ⊥
+pub no_mark : (f : Form) → ((s : _) (spacing : _) (span : _) → f ≡ forms.Mark s spacing span → ⊥) → form_sort f ≡ AMark
+    → ⊥
 no_mark (forms.Mark s spacing span) h e = h s spacing span refl
 no_mark f h e = cc
 
@@ -173,7 +174,8 @@ no_choice (forms.First n x) h i e = h n x refl
 no_choice (forms.Second n x) h i e = i n x refl
 no_choice f h i e = cc
 
-pub no_list : (f : Form) → (f ≡ forms.End → ⊥) → ((v : _) → f ≡ forms.Turns v → ⊥) → ((l : _) → f ≡ forms.Elements l → ⊥)
+pub no_list : (f : Form) → (f ≡ forms.End → ⊥) → ((v : _) → f ≡ forms.Turns v → ⊥)
+    → ((l : _) → f ≡ forms.Elements l → ⊥)
     → form_sort f ≡ AList → ⊥
 no_list forms.End g h i e = g refl
 no_list (forms.Turns v) g h i e = h v refl

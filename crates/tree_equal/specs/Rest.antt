@@ -25,6 +25,7 @@ IsLeft a b (rest.Three x y u v p q) =
 IsLeft a b (rest.Turns xs ys) =
     ((a ≡ b) ↔ (xs.now ≡ ys.now)) × (both_count (turns xs.now) (turns ys.now) ≤ both_count a b)
 IsLeft a b (rest.Elements x y) =
-    ((a ≡ b) ↔ ((x.now.before.now ≡ y.now.before.now) × (ending (λ z. z.now) x.now.last ≡ ending (λ z. z.now) y.now.last)))
+    ((a ≡ b) ↔ ((x.now.before.now ≡ y.now.before.now)
+    × (ending (λ z. z.now) x.now.last ≡ ending (λ z. z.now) y.now.last)))
     × (both_count (elements 0 x.now.before.now t.End) (elements 0 y.now.before.now t.End) ≤ both_count a b)
     × (both_count (ending (λ z. z.now) x.now.last) (ending (λ z. z.now) y.now.last) ≤ both_count a b)

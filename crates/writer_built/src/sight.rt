@@ -1,7 +1,8 @@
 //! What is seen at the first tokens of something: each look of the written grammar that decides parentheses.
 
 ghost use Rattle.writer_built.specs.Begins as b;
-ghost use Rattle.writer_built.specs.Begins.{brace_in, brace_out, front3, is_joint, is_label_next, is_mark, is_taken_next};
+ghost use Rattle.writer_built.specs.Begins.{brace_in, brace_out, front3, is_joint, is_label_next, is_mark};
+ghost use Rattle.writer_built.specs.Begins.{is_taken_next};
 ghost use Rattle.writer_built.specs.Begins.{is_word, lone_mark, one_mark, takes_next, three_marks, two_marks};
 ghost use Rattle.writer_built.specs.Heads.{head_tokens, seen_token};
 ghost use Rattle.reader_table.specs.Kinds.{kind_of, position_of};

@@ -116,7 +116,8 @@ apart_of all es e ts is h =
     h ∙ sym (apart_end (map entry_token es) (entry_token e)) ∙ ap apart (sym (map-append entry_token es (e ∷ [])))
     ∙ ap (λ xs. apart (map entry_token xs)) (sym is)
 
-lone_other : (e : Entry) → ((p : Bor Punct') → e ≡ entries.Punct p → ⊥) → entry_token e ∷ [] ≡ apart (entry_token e ∷ [])
+lone_other : (e : Entry) → ((p : Bor Punct') → e ≡ entries.Punct p → ⊥) → entry_token e ∷ []
+    ≡ apart (entry_token e ∷ [])
 lone_other (entries.Open d span n) h = refl
 lone_other (entries.Close d span) h = refl
 lone_other (entries.Ident i) h = refl

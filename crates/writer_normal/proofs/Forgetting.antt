@@ -3,7 +3,8 @@ use Rattle.std.specs.Prelude.{◌≡◌, Bool, true, false, List, ℕ, Option, S
 use Rattle.std.proofs.Common.{ap, ◌∙◌, sym}
 use Rattle.syn_grammar.specs.Kind.{Kind, AtType, AnyPath, Body, SomeBounds, ExprLit, ExprPath}
 use Rattle.syn_grammar.specs.Kept.{as_path, atom, block_atom, constant_argument, constant_default, forget, held}
-use Rattle.syn_grammar.specs.Kept.{listed_bound, lone_colon, named, not_last, plain_index, plain_member, unsafe_path, wild}
+use Rattle.syn_grammar.specs.Kept.{listed_bound, lone_colon, named, not_last, plain_index, plain_member, unsafe_path}
+use Rattle.syn_grammar.specs.Kept.{wild}
 use Rattle.syn_grammar.specs.Name.{the_bounds, the_pattern, the_type, the_unnamed}
 use Rattle.syn_grammar.specs.Words.{plain_decimal}
 use Rattle.syn_grammar.specs.Tree as t
@@ -205,7 +206,8 @@ last_none x e = refl
 pub ruleset lasts = (last_first, last_none)
 
 -- numbers
-pub index_literal : (x : Tree) (cs : List ℕ) → Some cs ≡ text_of_literal x → t.ALiteral (plain_decimal cs) ≡ plain_index x
+pub index_literal : (x : Tree) (cs : List ℕ) → Some cs ≡ text_of_literal x → t.ALiteral (plain_decimal cs)
+    ≡ plain_index x
 index_literal (t.ALiteral ds) cs e = let s : cs ≡ ds = cc in ap (λ es. t.ALiteral (plain_decimal es)) s
 index_literal x cs e = absurd (some_none cs e)
 

@@ -51,7 +51,8 @@ pub front_formed : (q : Position) (ts : List Token) (k : Kind) (y z own operand 
     → own ≡ normal_in Plain y → r ≡ inside q k → operand ≡ formed r ts z → x ≡ p.front_form q k own operand
     → x ≡ formed q ts (t.Front k y z)
 front_formed q ts k y z own operand x r e f g h =
-    h ∙ ap (λ o. p.front_form q k o operand) e ∙ ap (p.front_form q k (normal_in Plain y)) (g ∙ ap (λ s. formed s ts z) f)
+    h ∙ ap (λ o. p.front_form q k o operand) e ∙ ap (p.front_form q k (normal_in Plain y))
+    (g ∙ ap (λ s. formed s ts z) f)
 
 pub back_formed : (q : Position) (ts : List Token) (k : Kind) (y l own operand x : Tree) → own ≡ normal_in Plain y
     → operand ≡ formed q (follow (flat own)) l → x ≡ p.back_form q ts operand k own → x ≡ formed q ts (t.Back l k y)

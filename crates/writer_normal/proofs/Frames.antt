@@ -1,5 +1,6 @@
 -- Trees within frames: those that are put and taken away, and what is no larger than the whole.
-use Rattle.std.proofs.Common.{◌≡◌, ◌<◌, ◌≤◌, ◌∙◌, ◌++◌, ℕ, max, List, [], ◌∷◌, append_assoc, ap, arith, drop, length, length-append, refl, subst, sym, take, take_at, drop_at, take-append-drop}
+use Rattle.std.proofs.Common.{◌≡◌, ◌<◌, ◌≤◌, ◌∙◌, ◌++◌, ℕ, max, List, [], ◌∷◌, append_assoc, ap, arith, drop, length}
+use Rattle.std.proofs.Common.{length-append, refl, subst, sym, take, take_at, drop_at, take-append-drop}
 use Rattle.std.proofs.lemmas.List.{drop-append-le, take-append-le}
 use Rattle.reader_tree.specs.Size.{node_count}
 use Rattle.reader_tree.specs.declared.tree.Tree.TheDeep.{size-Tree}

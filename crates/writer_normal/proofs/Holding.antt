@@ -32,7 +32,8 @@ each_kept xs ys e = ap turns e ∙ sym (kept_turns xs)
 pub ruleset each = (each_kept)
 
 -- elements
-kept_elements : (c : ℕ) (es : List Element) (y : Tree) → kept (elements c es y) ≡ elements c (map element_held es) (kept y)
+kept_elements : (c : ℕ) (es : List Element) (y : Tree) → kept (elements c es y)
+    ≡ elements c (map element_held es) (kept y)
 kept_elements c [] y = refl
 kept_elements c (e ∷ es) y = ap (t.More (kept e.tree) c Apart) (kept_elements c es y)
 

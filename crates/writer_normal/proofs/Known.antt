@@ -31,7 +31,8 @@ and_assoc false b c = refl
 
 pub known_append : (ts us : List Token) → are_known (ts ++ us) ≡ (are_known ts && are_known us)
 known_append [] us = refl
-known_append (u ∷ ts) us = ap (λ b. is_known u && b) (known_append ts us) ∙ and_assoc (is_known u) (are_known ts) (are_known us)
+known_append (u ∷ ts) us = ap (λ b. is_known u && b) (known_append ts us)
+    ∙ and_assoc (is_known u) (are_known ts) (are_known us)
 
 -- the marks of the table, and those of entries
 pub sign_known : (s : Sign) (spacing : Spacing) → are_known (flat (mark_of (sign_text s) spacing)) ≡ true
@@ -51,7 +52,8 @@ entries_known [] = refl
 entries_known (e ∷ es) = ap (λ b. b && are_known (map entry_token es)) (entry_known e) ∙ entries_known es
 
 -- elements, and turns
-one_separator : (c d : ℕ) (es : List Element) (y : Tree) → c ≡ d → has_other d y ≡ false → has_other d (elements c es y) ≡ false
+one_separator : (c d : ℕ) (es : List Element) (y : Tree) → c ≡ d → has_other d y ≡ false → has_other d (elements c es y)
+    ≡ false
 one_separator c d [] y e h = h
 one_separator c d (x ∷ es) y e h =
     ap (λ b. not b || has_other d (elements c es y)) (eq-eqb c d e) ∙ one_separator c d es y e h

@@ -185,6 +185,7 @@ others_no p es ds out new all e is h f g =
 pub others_yes : (p : Tree → Bool) (es ds out all : List Element) (e : Element) → es ≡ e ∷ ds → p e.tree ≡ true
     → all ≡ out ++ others_in p ds → all ≡ out ++ others_in p es
 others_yes p es ds out all e is h g =
-    g ∙ sym (ap (λ b. out ++ cond b (others_in p ds) (e ∷ others_in p ds)) h) ∙ ap (λ xs. out ++ others_in p xs) (sym is)
+    g ∙ sym (ap (λ b. out ++ cond b (others_in p ds) (e ∷ others_in p ds)) h)
+    ∙ ap (λ xs. out ++ others_in p xs) (sym is)
 
 pub ruleset puts = (those_none, those_yes, those_no, others_none, others_no, others_yes)

@@ -299,7 +299,8 @@ comma_before c x ds (e ∷ es) h some =
     mixed_last c ds (t.More x 44 Apart (elements c (e ∷ es) t.End)) (or_else true _ (λ f.
     absurd (h (eqb-true c 44 (not_false (nat_eq c 44)
     (neither (not (nat_eq c 44)) (has_other 44 (elements c es t.End))
-    (neither (has_other 44 (elements c (e ∷ es) t.End)) (is_mixed x || is_mixed (elements c (e ∷ es) t.End)) f).0).0)))) refl)
+    (neither (has_other 44 (elements c (e ∷ es) t.End)) (is_mixed x || is_mixed (elements c (e ∷ es) t.End)) f).0).0))))
+    refl)
 
 -- a part that is changed
 mixed_cond : (b : Bool) (f : Tree → Tree) (x : Tree) → (is_mixed x ≡ true → is_mixed (f x) ≡ true) → is_mixed x ≡ true

@@ -128,7 +128,8 @@ pub changed_turns : (n : Part) (f : Tree → Tree) (xs : List Tree) → changed 
 changed_turns n f [] = refl
 changed_turns n f (x ∷ xs) = refl
 
-pub changed_elements : {A : Type 0} (n : Part) (f : Tree → Tree) (c : ℕ) (es : List Element) (g : A → Tree) (o : Option A)
+pub changed_elements : {A : Type 0} (n : Part) (f : Tree → Tree) (c : ℕ) (es : List Element) (g : A → Tree)
+    (o : Option A)
     → changed n f (elements c es (ending g o)) ≡ elements c es (ending g o)
 changed_elements n f c [] g None = refl
 changed_elements n f c [] g (Some y) = refl

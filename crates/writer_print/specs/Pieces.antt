@@ -20,7 +20,8 @@ piece_token (pieces.Close d) = Closes d
 piece_token pieces.Underscore = Ident (codes "_")
 piece_token (pieces.Index n span) = Literal (decimal n)
 
--- Words and literals stand where they were read, marks, groups and indices where it is said, and all else at no place of a text.
+-- Words and literals stand where they were read, marks, groups and indices where it is said, and all else at no place
+-- of a text.
 abbrev pub piece_span : Piece → Span
 piece_span (pieces.Ident i) = ident_span i.now
 piece_span (pieces.Literal l) = literal_span l.now

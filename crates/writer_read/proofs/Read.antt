@@ -25,7 +25,8 @@ use Rattle.laws_ranges.specs.Shelled.{shelled}
 use Rattle.laws_ranges.proofs.Given.{given_shelled, infix_level, may_plain}
 use Rattle.laws_ranges.proofs.Held.{gains_shells}
 use Rattle.writer_rules.specs.Turns.{is_raw_turn}
-use Rattle.writer_read.specs.Formed.{GainsGiven, GivesOn, HasFormed, HasGiven, IsFormed, IsFormedStatement, own_position}
+use Rattle.writer_read.specs.Formed.{GainsGiven, GivesOn, HasFormed, HasGiven, IsFormed, IsFormedStatement}
+use Rattle.writer_read.specs.Formed.{own_position}
 use Rattle.writer_read.proofs.Fits.{begins_brace, is_position, is_condition, is_turn, fits, is_expression, all_fit}
 use Rattle.writer_read.proofs.Fits.{position_is, brace_first}
 use Rattle.writer_read.proofs.Apart.{alt_two, turn_apart}

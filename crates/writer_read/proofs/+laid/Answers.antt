@@ -1,6 +1,7 @@
 use Rattle.std.specs.Prelude.{Bool, List, [], ◌∷◌, OnOk, Some, None, true, false, cond, not}
 use Rattle.std.specs.List.{list_any}
-use Rattle.std.proofs.Common.{append_assoc, arith, ap, subst, sym, refl, rules, ◌≡◌, ◌∙◌, ◌+◌, ◌-◌, ◌++◌, drop, length, map, take}
+use Rattle.std.proofs.Common.{append_assoc, arith, ap, subst, sym, refl, rules, ◌≡◌, ◌∙◌, ◌+◌, ◌-◌, ◌++◌, drop, length}
+use Rattle.std.proofs.Common.{map, take}
 use Rattle.std.proofs.lemmas.List.{take_all}
 use Rattle.std.proofs.lemmas.Result.{on_ok_weaker}
 use Rattle.std.proofs.lemmas.Grind.{common_steps}
@@ -63,7 +64,14 @@ pub laid::put_laid-put_turns-requires : goal.laid::put_laid-put_turns-requires
 laid::put_laid-put_turns-requires n c =
     let x : Tree = c.tails.left.tree.now in
     let view : x ≡ turns c.in-Turns.turns.now.each.now = sym c.here.view_is ∙ ap tree_of c.in-Turns.is in
-    omega (arith, c.decreases, c.tails.invariant.inside, turns_size c.in-Turns.turns.now.each.now, ap node_count view, tree_size x)
+    omega (
+      arith,
+      c.decreases,
+      c.tails.invariant.inside,
+      turns_size c.in-Turns.turns.now.each.now,
+      ap node_count view,
+      tree_size x,
+    )
 
 pub laid::put_laid-put_elements-requires : goal.laid::put_laid-put_elements-requires
 laid::put_laid-put_elements-requires n c =
@@ -235,7 +243,8 @@ pub laid::put_elements-loop-element-preserved : goal.laid::put_elements-loop-ele
 laid::put_elements-loop-element-preserved n c = record {
   kept = keeps_both _ _ _ (keeps_both _ _ _ c.loop-element.invariant.kept c.put_laid.ensures.keeps)
       c.separator.ensures.keeps;
-  put = elements_next (separator_of c.args.mark) c.args.before.now c.loop-element.element-index c.element-item.result _ _ _ _
+  put = elements_next (separator_of c.args.mark) c.args.before.now c.loop-element.element-index c.element-item.result _
+      _ _ _
       c.loop-element-test.true c.element-item.is c.loop-element.invariant.put c.in_ok-put_laid.ensures.put
       c.in_ok-separator.ensures.put;
 }
@@ -623,7 +632,8 @@ laid::put_firsts-returns-in_default-last-clause-put n c =
     sym c.list.view_is ∙ ap tree_of c.in-Elements.is
     ∙ ap (λ o. elements m es (ending (λ b. b.now) o)) c.in_default-last.is in
     put_second _ _ _ _ _ _ _ c.in_ok-put_those.ensures.put
-    (sym (ap (firsts_laid (passes c.args.which)) view ∙ firsts_open (passes c.args.which) m es)) c.put_others.ensures.put
+    (sym (ap (firsts_laid (passes c.args.which)) view ∙ firsts_open (passes c.args.which) m es))
+    c.put_others.ensures.put
 
 pub laid::put_firsts-returns-in_default-last-clause-keeps : goal.laid::put_firsts-returns-in_default-last-clause-keeps
 laid::put_firsts-returns-in_default-last-clause-keeps n c =
@@ -795,7 +805,8 @@ laid::put_laid-tails-preserved-in_ok-put_left-in-Infix n c =
     let three = c.in-Infix.three.now in
     let left : List Token = enclosed_if (goes_in (kind_of c.in-Infix.kind) three.left) (laid three.left) in record {
       kept = keeps_both _ _ _ c.tails.invariant.kept c.put_left.ensures.keeps;
-      put = tail_left _ _ _ _ _ _ _ _ _ _ _ is (sym (append_assoc left (laid three.own) (laid three.right))) c.ending-left-in-Infix.ensures.within
+      put = tail_left _ _ _ _ _ _ _ _ _ _ _ is (sym (append_assoc left (laid three.own) (laid three.right)))
+          c.ending-left-in-Infix.ensures.within
           c.ending-left-in-Infix.ensures.tree c.tails.invariant.put c.in_ok-put_left-in-Infix.ensures.put;
       inside = tail_inside _ _ _ _ _ is c.ending-left-in-Infix.ensures.tree (omega arith) c.tails.invariant.inside;
     }
@@ -886,7 +897,8 @@ laid::put_first-returns-then-is_missing n c =
 -- the ends of lists
 pub laid::put_elements-returns-clause-put : goal.laid::put_elements-returns-clause-put
 laid::put_elements-returns-clause-put n c =
-    loop_end (λ es. laid (elements (separator_of c.args.mark) es t.End)) c.args.before.now c.loop-element.element-index _ _
+    loop_end (λ es. laid (elements (separator_of c.args.mark) es t.End)) c.args.before.now c.loop-element.element-index
+    _ _
     c.loop-element-test.false refl c.loop-element.invariant.put
 
 pub laid::put_those-returns-clause-put : goal.laid::put_those-returns-clause-put

@@ -9,4 +9,5 @@ use Rattle.reader_fast.proofs.absent.outer_attributes.Goals as goal
 pub returns-in-None-clause-read : goal.returns-in-None-clause-read
 returns-in-None-clause-read c =
     let ts = tokens c.args.at.now in
-    c.found.ensures.read 2 OuterAttributes ts (Node OuterAttributes End) (no_outer ts (sym c.in-None.ensures.after)) c.without_turns.ensures
+    c.found.ensures.read 2 OuterAttributes ts (Node OuterAttributes End) (no_outer ts (sym c.in-None.ensures.after))
+    c.without_turns.ensures

@@ -14,5 +14,6 @@ returns-in-Some-clause-read c =
     let ts = tokens c.args.at.now in
     let cs = literal_text c.in-Some.literal.now in
     c.found.ensures.read 8 (Expression p) ts (lone_literal p cs)
-    (alone_at p cs ts (tokens c.in-Some.rest.now) (lone_literal p cs) c.in-Some.ensures.first c.in-Some.ensures.over refl)
+    (alone_at p cs ts (tokens c.in-Some.rest.now) (lone_literal p cs) c.in-Some.ensures.first c.in-Some.ensures.over
+    refl)
     c.lone_literal.ensures

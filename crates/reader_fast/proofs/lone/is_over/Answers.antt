@@ -6,5 +6,6 @@ use Rattle.reader_fast.proofs.lone.is_over.Goals as goal
 
 pub returns-in-Open : goal.returns-in-Open
 returns-in-Open c =
-    over_before (position_of c.args.position) c.in-Open.delimiter c.in-Open.field-1 c.in-Open.field-2 c.in-Some.first.now
+    over_before (position_of c.args.position) c.in-Open.delimiter c.in-Open.field-1 c.in-Open.field-2
+    c.in-Some.first.now
     c.args.at.now c.in-Some.field-0-1.now c.is_over_before.result (search rules) (search rules) c.is_over_before.ensures

@@ -15,7 +15,8 @@ returns-in-Last-clause-read t c =
     let cs = ident_text c.in-Last.word.now in
     let ts = tokens c.args.at.now in
     c.found.ensures.read c.args.most (Segments s) ts (last_segment s n cs)
-    (last_at s n cs ts (tokens c.in-Last.rest.now) c.args.most (omega arith) c.in-Last.ensures.begin) c.last_segment.ensures
+    (last_at s n cs ts (tokens c.in-Last.rest.now) c.args.most (omega arith) c.in-Last.ensures.begin)
+    c.last_segment.ensures
 
 pub returns-in-Last-clause-named : goal.returns-in-Last-clause-named
 returns-in-Last-clause-named t c =
@@ -41,7 +42,8 @@ returns-in-Some-clause-read t c =
     let named = rw c.in-Some.is at c.in_ok-tree-in-Further.ensures.named in
     let read = rw c.in-Some.is at c.in_ok-tree-in-Further.ensures.read in
     c.found-in-Further.ensures.read c.args.most (Segments s) ts (further_segments s n cs c.in-Further.spacing x)
-    (further_at s n cs ts (tokens c.in-Further.others.now) (tokens c.in-Some.left.now) c.in-Further.spacing x c.args.most
+    (further_at s n cs ts (tokens c.in-Further.others.now) (tokens c.in-Some.left.now) c.in-Further.spacing x
+    c.args.most
     (omega arith) c.in-Further.ensures.begin named read) c.further_segments-tree.ensures
 
 pub returns-in-Some-clause-named : goal.returns-in-Some-clause-named

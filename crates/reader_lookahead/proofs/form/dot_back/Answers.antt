@@ -3,7 +3,8 @@ use Rattle.std.proofs.Common.{rules}
 use Rattle.reader_tokens.specs.Tokens.{tokens}
 use Rattle.reader_table.specs.Kinds.{position_of}
 use Rattle.rust_leaf.specs.Leaf.{ident_text, punct_char, punct_spacing}
-use Rattle.reader_lookahead.proofs.Backs.{nothing_back, field_back, await_back, method_back, uncalled_back, reserved_back}
+use Rattle.reader_lookahead.proofs.Backs.{nothing_back, field_back, await_back, method_back, uncalled_back}
+use Rattle.reader_lookahead.proofs.Backs.{reserved_back}
 use Rattle.reader_lookahead.proofs.form.dot_back.Goals as goal
 
 pub returns-in_default : goal.returns-in_default

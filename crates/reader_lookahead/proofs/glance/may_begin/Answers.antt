@@ -2,7 +2,8 @@
 use Rattle.std.proofs.Common.{rules}
 use Rattle.reader_tokens.specs.Tokens.{tokens}
 use Rattle.reader_table.specs.declared.composite.Composite.TheVariants as composites
-use Rattle.reader_lookahead.proofs.Glances.{so, labelled_block_none, typed_none, closure_none, repeat_none, raw_none, call_stands_none}
+use Rattle.reader_lookahead.proofs.Glances.{so, labelled_block_none, typed_none, closure_none, repeat_none, raw_none}
+use Rattle.reader_lookahead.proofs.Glances.{call_stands_none}
 use Rattle.reader_lookahead.proofs.glance.may_begin.Goals as goal
 
 pub returns-else-opened : goal.returns-else-opened

@@ -2,7 +2,10 @@
 use Rattle.std.proofs.Common.{rules}
 use Rattle.reader_tokens.specs.Tokens.{tokens}
 use Rattle.reader_table.specs.declared.composite.Composite.TheVariants as composites
-use Rattle.reader_lookahead.proofs.Glances.{so, turbofish_none, ident_eq_none, named_none, pointer_none, vert_none, inner_none, ident_lt_none, signature_none, const_trait_none, const_impl_none, literal_none, macro_item_none, macro_statement_none, item_none}
+use Rattle.reader_lookahead.proofs.Glances.{so, turbofish_none, ident_eq_none, named_none, pointer_none, vert_none}
+use Rattle.reader_lookahead.proofs.Glances.{inner_none, ident_lt_none, signature_none, const_trait_none}
+use Rattle.reader_lookahead.proofs.Glances.{const_impl_none, literal_none, macro_item_none, macro_statement_none}
+use Rattle.reader_lookahead.proofs.Glances.{item_none}
 use Rattle.reader_lookahead.proofs.glance.may_see.Goals as goal
 
 pub returns-in-Turbofish : goal.returns-in-Turbofish
@@ -57,7 +60,8 @@ returns-else-begins_call c h =
 
 pub returns-else-begins_call-2 : goal.returns-else-begins_call-2
 returns-else-begins_call-2 c h =
-    so c.args.composite composites.MacroStatementBehindAttributes (tokens c.args.at.now) c.in-MacroStatementBehindAttributes.is
+    so c.args.composite composites.MacroStatementBehindAttributes (tokens c.args.at.now)
+    c.in-MacroStatementBehindAttributes.is
     (macro_statement_none (tokens c.args.at.now) (search rules) (search rules))
 
 pub returns-else-begins_item : goal.returns-else-begins_item

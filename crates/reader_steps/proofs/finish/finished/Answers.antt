@@ -27,5 +27,10 @@ pending-preserved g c =
 pub returns-clause-answer : goal.returns-clause-answer
 returns-clause-answer g c =
     let items = c.pending.work.pending.items in
-    let le : length items ≤ c.args.base = omega (arith, c.pending-test.false, c.len.ensures, c.pending.work.pending.ok.0) in
+    let le : length items ≤ c.args.base = omega (
+      arith,
+      c.pending-test.false,
+      c.len.ensures,
+      c.pending.work.pending.ok.0,
+    ) in
     λ o h. gives_all c.args.base items le c.pending.read o (c.pending.invariant.made o h)

@@ -8,7 +8,9 @@ returns-clause-enters c =
     (sym c.is_same.ensures ∙ c.if-not-is_same.false) c.requires
 
 pub returns-clause-inside : goal.returns-clause-inside
-returns-clause-inside c = entered_inside c.args.delimiter _ _ _ _ _ _ c.in_ok-entry.ensures.cases.0 c.in-Open.is c.requires
+returns-clause-inside c = entered_inside c.args.delimiter _ _ _ _ _ _ c.in_ok-entry.ensures.cases.0 c.in-Open.is
+    c.requires
 
 pub returns-clause-behind : goal.returns-clause-behind
-returns-clause-behind c = entered_behind c.args.delimiter _ _ _ _ _ _ c.in_ok-entry.ensures.cases.0 c.in-Open.is c.requires
+returns-clause-behind c = entered_behind c.args.delimiter _ _ _ _ _ _ c.in_ok-entry.ensures.cases.0 c.in-Open.is
+    c.requires

@@ -17,7 +17,8 @@ use Rattle.reader_steps.proofs.Elements.{element_more, element_none, element_las
 use Rattle.reader_steps.proofs.Operands.{climb_ends, climb_chains, climb_goes, climb_fails, operand_goes}
 use Rattle.reader_steps.proofs.Operands.{none_stands, operand_fails}
 use Rattle.reader_steps.proofs.Outs.{fails_as, fails_on, gives_as, got_on, syntax_fails}
-use Rattle.reader_steps.proofs.Pendings.{as_light, at_step, ends, goes, leads_fails, leads_on, lighter, makes_left, no_step, old_kept, refused}
+use Rattle.reader_steps.proofs.Pendings.{as_light, at_step, ends, goes, leads_fails, leads_on, lighter, makes_left}
+use Rattle.reader_steps.proofs.Pendings.{no_step, old_kept, refused}
 use Rattle.reader_steps.proofs.run.+run.Goals as goal
 
 pub forward-returns-in-Word-clause-answer : goal.forward-returns-in-Word-clause-answer
@@ -86,7 +87,8 @@ forward-returns-in-Operand-clause-answer g t c =
 pub forward-returns-in_default-clause-answer : goal.forward-returns-in_default-clause-answer
 forward-returns-in_default-clause-answer g t c =
     let i = rw c.in_ok-spot.was at c.steps.invariant.read in
-    let s = no_step c.in_ok-spot.spot.fuel c.in_ok-spot.spot.steps.now (tokens c.in_ok-spot.spot.entries.now) c.in_default.ensures.cases in
+    let s = no_step c.in_ok-spot.spot.fuel c.in_ok-spot.spot.steps.now (tokens c.in_ok-spot.spot.entries.now)
+    c.in_default.ensures.cases in
     refused _ _ i.0 _ _ i.1 i.2 _ _ s refl c.refuse.ensures.syntax
 
 pub forward-returns-in_err-spot-clause-answer : goal.forward-returns-in_err-spot-clause-answer
@@ -190,7 +192,13 @@ forward-steps-preserved-in-Alt g t c =
     record {
       read = goes _ _ i.0 _ _ i.1 i.2 _ _ _ (s ∙ c.in-Some-chosen.ensures.says (run c.in_ok-spot.spot.fuel)) o.answer;
       whole = o.whole;
-      least = as_light _ _ _ o.lighter (omega (arith, le, c.in-Some-chosen.ensures.shorter, ap length c.in-Some.ensures.cases.0));
+      least = as_light _ _ _ o.lighter (omega (
+        arith,
+        le,
+        c.in-Some-chosen.ensures.shorter,
+        ap length
+            c.in-Some.ensures.cases.0,
+      ));
     }
 
 pub forward-steps-preserved : goal.forward-steps-preserved
@@ -298,7 +306,8 @@ pub star-returns-clause-answer : goal.star-returns-clause-answer
 star-returns-clause-answer g t c =
     let s : c.turns.fuel ≡ suc (c.turns.fuel - 1) = omega arith in
     gives_as (λ x. x.0) (λ x. x.1.now) _ _ _
-    (turn_none (test_of c.args.test) (gram_of c.args.parts.now) c.turns.fuel (c.turns.fuel - 1) c.turns.turns.items _ _ s
+    (turn_none (test_of c.args.test) (gram_of c.args.parts.now) c.turns.fuel (c.turns.fuel - 1) c.turns.turns.items _ _
+    s
     c.turns.invariant.read (sym c.passes.ensures ∙ c.if-not-passes.true))
     (c.with_rest.ensures.answer _ c.turns-tree.ensures)
 

@@ -5,7 +5,8 @@ use Rattle.reader_steps.proofs.unfit.+begin.Goals as goal
 
 pub begin-begin_of_turns-requires : goal.begin-begin_of_turns-requires
 begin-begin_of_turns-requires t c =
-    let below = turns_below c.in-Turns.turns.now.each.now c.args.tree.now (sym c.tree.view_is ∙ ap tree_of c.in-Turns.is) in
+    let below = turns_below c.in-Turns.turns.now.each.now c.args.tree.now
+    (sym c.tree.view_is ∙ ap tree_of c.in-Turns.is) in
     omega (arith, c.decreases, below)
 
 pub begin-begin_of_elements-requires : goal.begin-begin_of_elements-requires

@@ -8,7 +8,8 @@ use Rattle.reader_tokens.proofs.literals.past.Given as goal
 -- behind what is left stands what stands behind all
 abbrev pub invariant-loop-behind : goal.invariant-loop-behind
 invariant-loop-behind l =
-    (past_literals (literals_of l.literals) (tokens l.place.entries.now) ≡ past_literals (literals_of l.literals) (tokens l.at))
+    (past_literals (literals_of l.literals) (tokens l.place.entries.now)
+    ≡ past_literals (literals_of l.literals) (tokens l.at))
     × (is_nested l.at ≡ true → is_nested l.place.entries.now ≡ true)
 
 abbrev pub decreases-loop-behind : goal.decreases-loop-behind

@@ -9,7 +9,8 @@ use Rattle.reader_verdicts.proofs.closing.+closing.Goals as goal
 
 pub ending-ending_of_turns-requires : goal.ending-ending_of_turns-requires
 ending-ending_of_turns-requires t c =
-    let below = turns_below c.in-Turns.turns.now.each.now c.args.tree.now (sym c.tree.view_is ∙ ap tree_of c.in-Turns.is) in
+    let below = turns_below c.in-Turns.turns.now.each.now c.args.tree.now
+    (sym c.tree.view_is ∙ ap tree_of c.in-Turns.is) in
     omega (arith, c.decreases, below)
 
 pub ending_of_turns-loop-tree-preserved : goal.ending_of_turns-loop-tree-preserved

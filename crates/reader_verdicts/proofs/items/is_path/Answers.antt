@@ -10,7 +10,8 @@ pub returns-in-AnyPath : goal.returns-in-AnyPath
 returns-in-AnyPath c =
     let x = c.in-Some.inner.now in
     in_node is_path c.is_second.result c.args.tree.now (kind_of c.in-Some.kind) x c.in-Some.ensures
-    (c.is_second.ensures ∙ is_path_second c.in-AnyPath.field-0 x ∙ ap (λ k. is_path (Node (kind_of k) x)) (sym c.in-AnyPath.is))
+    (c.is_second.ensures ∙ is_path_second c.in-AnyPath.field-0 x
+    ∙ ap (λ k. is_path (Node (kind_of k) x)) (sym c.in-AnyPath.is))
 
 pub returns-in_default : goal.returns-in_default
 returns-in_default c =

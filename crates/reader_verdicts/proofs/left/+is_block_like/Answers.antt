@@ -11,5 +11,6 @@ returns-in_default t c =
 
 pub returns-in-Some-alone : goal.returns-in-Some-alone
 returns-in-Some-alone t c =
-    let e : Some (named c.in-Some-alone.kind, c.in-Some-alone.field-0-1.now) ≡ alone_of c.args.tree.now = search rules in
+    let e : Some (named c.in-Some-alone.kind, c.in-Some-alone.field-0-1.now)
+    ≡ alone_of c.args.tree.now = search rules in
     c.has_block.ensures ∙ block_alone c.args.tree.now (named c.in-Some-alone.kind) c.in-Some-alone.field-0-1.now e

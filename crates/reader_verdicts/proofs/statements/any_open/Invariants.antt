@@ -6,4 +6,5 @@ use Rattle.reader_verdicts.proofs.statements.any_open.Given as goal
 
 abbrev pub invariant-loop-turn : goal.invariant-loop-turn
 invariant-loop-turn l =
-    list_any (λ x. needs_semicolon (choice x)) l.turns ≡ list_any (λ x. needs_semicolon (choice x)) (drop l.turn-index l.turns)
+    list_any (λ x. needs_semicolon (choice x)) l.turns
+    ≡ list_any (λ x. needs_semicolon (choice x)) (drop l.turn-index l.turns)

@@ -8,7 +8,8 @@ use Rattle.syn_tokens.proofs.leaf.+leaves.Goals as goal
 
 pub put_leaves-put_turns-requires : goal.put_leaves-put_turns-requires
 put_leaves-put_turns-requires t c =
-    let below = turns_below c.in-Turns.turns.now.each.now c.args.tree.now (sym c.tree.view_is ∙ ap tree_of c.in-Turns.is) in
+    let below = turns_below c.in-Turns.turns.now.each.now c.args.tree.now
+    (sym c.tree.view_is ∙ ap tree_of c.in-Turns.is) in
     omega (arith, c.decreases, below)
 
 pub put_leaves-put_elements-requires : goal.put_leaves-put_elements-requires

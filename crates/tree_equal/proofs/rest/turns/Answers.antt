@@ -9,7 +9,8 @@ use Rattle.tree_equal.proofs.rest.turns.Goals as goal
 
 pub returns-in-Turns : goal.returns-in-Turns
 returns-in-Turns c =
-    turns_left c.args.turns.now c.in-Turns.others.now.each.now c.args.tree.now (sym (ap tree_of c.in-Turns.is) ∙ c.tree.view_is)
+    turns_left c.args.turns.now c.in-Turns.others.now.each.now c.args.tree.now
+    (sym (ap tree_of c.in-Turns.is) ∙ c.tree.view_is)
 
 pub returns-in-End : goal.returns-in-End
 returns-in-End c =

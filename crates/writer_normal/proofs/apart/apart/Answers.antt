@@ -20,6 +20,7 @@ returns c =
     (λ xs. map entry_token xs.now ≡ apart (map entry_token c.args.entries.now))
     (λ xs e. ap (map entry_token) e
     ∙ apart_made c.args.entries.now c.in-Some.before.now c.push.new.self.items c.in-Some.last.now c.in-Punct.punct
-    c.in_ok-mark.mark c.in-Some.ensures.cases.0 c.in-Punct.is (ap punct_char c.in_ok-mark.ensures ∙ c.alone.ensures.mark)
+    c.in_ok-mark.mark c.in-Some.ensures.cases.0 c.in-Punct.is (ap punct_char c.in_ok-mark.ensures
+    ∙ c.alone.ensures.mark)
     (ap punct_spacing c.in_ok-mark.ensures ∙ c.alone.ensures.apart) put)
     c.put_all.ensures

@@ -9,7 +9,8 @@ use Rattle.syn_grammar.specs.Tree.{flat}
 use Rattle.writer_built.specs.Begins.{front3}
 use Rattle.writer_built.specs.Heads.{head_tokens}
 use Rattle.writer_normal.proofs.Inside.{last_below}
-use Rattle.writer_normal.proofs.Heads.{elements_more, end_below, group_first, list_last, three_firsts, turns_more, two_firsts}
+use Rattle.writer_normal.proofs.Heads.{elements_more, end_below, group_first, list_last, three_firsts, turns_more}
+use Rattle.writer_normal.proofs.Heads.{two_firsts}
 use Rattle.writer_normal.proofs.first.+first.Goals as goal
 
 pub first-returns-in-Infix : goal.first-returns-in-Infix

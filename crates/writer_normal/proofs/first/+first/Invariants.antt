@@ -20,4 +20,5 @@ decreases-followed_elements l = 8 * node_count (elements (separator_of l.mark) l
 
 abbrev pub decreases-first_list : goal.decreases-first_list
 decreases-first_list l =
-    8 * node_count (elements (separator_of l.list.now.separator) l.list.now.before.now (ending (λ b. b.now) l.list.now.last)) + 5
+    8 * node_count (elements (separator_of l.list.now.separator) l.list.now.before.now
+    (ending (λ b. b.now) l.list.now.last)) + 5

@@ -62,7 +62,8 @@ decreases-put_each l = 4 * most (λ x. size-Tree x) l.trees.now + 4
 
 abbrev pub decreases-list : goal.decreases-list
 decreases-list l =
-    16 * node_count (elements (separator_of l.list.now.separator) l.list.now.before.now (ending (λ b. b.now) l.list.now.last)) + 13
+    16 * node_count (elements (separator_of l.list.now.separator) l.list.now.before.now
+    (ending (λ b. b.now) l.list.now.last)) + 13
 
 abbrev pub decreases-put_elements : goal.decreases-put_elements
 decreases-put_elements l = 4 * most (λ x. size-Element x) l.before.now

@@ -32,7 +32,8 @@ decreases-each_turn l = 2 * most (λ x. size-Tree x) l.trees.now + 1
 
 abbrev pub decreases-each_list : goal.decreases-each_list
 decreases-each_list l =
-    8 * node_count (elements (separator_of l.list.now.separator) l.list.now.before.now (ending (λ b. b.now) l.list.now.last)) + 7
+    8 * node_count (elements (separator_of l.list.now.separator) l.list.now.before.now
+    (ending (λ b. b.now) l.list.now.last)) + 7
 
 abbrev pub decreases-each_element : goal.decreases-each_element
 decreases-each_element l = 2 * most (λ x. size-Element x) l.before.now

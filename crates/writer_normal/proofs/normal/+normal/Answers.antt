@@ -198,7 +198,8 @@ infix-returns-in_err-left n c =
     let own : Tree = c.in_ok-own.own in
     let three = c.args.three.now in
     let p = err_from_is_err_and c.from_residual-in_err-left.result c.from_residual-in_err-left.ensures.1 in
-    rw (p.1, p.2) (λ ts head same. infix_left (position_of c.args.position) ts three.left (kind_of c.args.kind) three.own
+    rw (p.1, p.2) (λ ts head same. infix_left (position_of c.args.position) ts three.left (kind_of c.args.kind)
+    three.own
     three.right own c.in_ok-own.ensures
     (c.in_err-left.ensures (follow (flat own)) (c.follow-next.ensures (flat own) c.first-begun.ensures) same))
 
@@ -206,7 +207,8 @@ pub infix-returns-in_err-right : goal.infix-returns-in_err-right
 infix-returns-in_err-right n c =
     let three = c.args.three.now in
     let p = err_from_is_err_and c.from_residual-in_err-right.result c.from_residual-in_err-right.ensures.1 in
-    rw (p.1, p.2) (λ ts head same. infix_right (position_of c.args.position) ts three.left (kind_of c.args.kind) three.own
+    rw (p.1, p.2) (λ ts head same. infix_right (position_of c.args.position) ts three.left (kind_of c.args.kind)
+    three.own
     three.right (ap (λ r. is_mixed (formed r ts three.right)) (sym c.inside-place.ensures)
     ∙ c.in_err-right.ensures ts head same))
 

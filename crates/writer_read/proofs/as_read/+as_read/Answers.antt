@@ -400,7 +400,8 @@ put_elements-returns-in_err-separator-clause-keeps n c =
 
 pub put_elements-returns-clause-put : goal.put_elements-returns-clause-put
 put_elements-returns-clause-put n c =
-    loop_end (λ es. flat (elements (separator_of c.args.mark) es t.End)) c.args.before.now c.loop-element.element-index _ _
+    loop_end (λ es. flat (elements (separator_of c.args.mark) es t.End)) c.args.before.now c.loop-element.element-index
+    _ _
     c.loop-element-test.false refl c.loop-element.invariant.put
 
 -- what stands behind the forms that are left

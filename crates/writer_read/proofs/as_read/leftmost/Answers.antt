@@ -17,7 +17,8 @@ loop-left-preserved c =
     let x : Tree = c.loop-left.place.tree.now in
     let l : Tree = c.in-Some.left.now in
     let xs : List Tree = map (λ (y : Bor Tree). y.now) c.loop-left.forms.items in
-    let all : List Token = flat c.args.tree.now ++ behind_lefts_read (map (λ (y : Bor Tree). y.now) c.args.forms.now.items) in
+    let all : List Token = flat c.args.tree.now ++ behind_lefts_read
+    (map (λ (y : Bor Tree). y.now) c.args.forms.now.items) in
     let left : Some (kind_of c.in-Some.field-0-0, l) ≡ left_of x = search rules in
     let pushed : map (λ (y : Bor Tree). y.now) c.push.new.self.items ≡ xs ++ x ∷ [] =
     ap (map (λ (y : Bor Tree). y.now)) c.in_ok-push.ensures.items

@@ -9,7 +9,8 @@ use Rattle.writer_read.proofs.begun.+begun.Goals as goal
 
 pub begun-begun_turns-requires : goal.begun-begun_turns-requires
 begun-begun_turns-requires t c =
-    let below = turns_below c.in-Turns.turns.now.each.now c.args.tree.now (sym c.tree.view_is ∙ ap tree_of c.in-Turns.is) in
+    let below = turns_below c.in-Turns.turns.now.each.now c.args.tree.now
+    (sym c.tree.view_is ∙ ap tree_of c.in-Turns.is) in
     omega (arith, c.decreases, below)
 
 pub begun_turns-returns-in-Some : goal.begun_turns-returns-in-Some

@@ -11,8 +11,10 @@ use Rattle.writer_read.proofs.chain.put_fronts.Given as goal
 abbrev pub invariant-loop : goal.invariant-loop
 invariant-loop l = record {
   kept : Keeps l.fn.out.items l.out.items;
-  put : map piece_token l.out.items ++ (passed_laid l.fn.lefts l.place.tree.now ++ behind_lefts (map (λ x. x.now) l.forms.items))
-      ≡ map piece_token l.fn.out.items ++ (passed_laid l.fn.lefts l.fn.tree ++ behind_lefts (map (λ x. x.now) l.fn.forms.items));
+  put : map piece_token l.out.items ++ (passed_laid l.fn.lefts l.place.tree.now ++ behind_lefts
+      (map (λ x. x.now) l.forms.items))
+      ≡ map piece_token l.fn.out.items ++ (passed_laid l.fn.lefts l.fn.tree ++ behind_lefts
+      (map (λ x. x.now) l.fn.forms.items));
   inside : size-Tree l.place.tree.now ≤ size-Tree l.fn.tree;
   outside : most (λ x. size-Tree x.now) l.forms.items
       ≤ max (most (λ x. size-Tree x.now) l.fn.forms.items) (size-Tree l.fn.tree);

@@ -22,7 +22,8 @@ returns-clause-put c =
     ∙ map-append (λ (y : Bor Tree). y.now) c.args.forms.now.items (c.args.place.now.tree ∷ []) in
     ap (λ ys. map piece_token c.put_if.new.out.items ++ (passed_laid c.args.lefts l ++ behind_lefts ys)) pushed
     ∙ step_in c.args.lefts (map piece_token c.args.out.now.items) (map piece_token c.put_if.new.out.items)
-    (map piece_token c.args.out.now.items ++ (passed_laid c.args.lefts x ++ behind_lefts xs)) (kind_of c.in-Some.kind) l x xs left
+    (map piece_token c.args.out.now.items ++ (passed_laid c.args.lefts x ++ behind_lefts xs)) (kind_of c.in-Some.kind) l
+    x xs left
     (c.in_ok-put_if.ensures.put
     ∙ ap (λ b. map piece_token c.args.out.now.items ++ cond b (Opens Parenthesis ∷ []) []) c.goes_in.ensures) refl
 
