@@ -377,7 +377,8 @@ def entries(file, kinds, inline):
         out += ['', 'ExprLit = Lit']
     while out[-1] == '' or out[-1].startswith('//'):
         out.pop()
-    return '\n'.join(['```', *out[1:], '```'])
+    where = f'Defined in `crates/syn_grammar/specs/{file}.antt`:'
+    return '\n'.join([where, '', '```', *out[1:], '```'])
 
 
 def shown_forms():
