@@ -1,0 +1,5 @@
+mod Fronts
+mod Wholes
+mod Passing
+mod Literals
+mod Steps
