@@ -3,3 +3,4 @@ mod Wholes
 mod Passing
 mod Literals
 mod Steps
+mod Standing

@@ -3,15 +3,17 @@
 #![tactic(auto)]
 
 ghost use Rattle.node_seen.specs.Trees.{IsTree};
+ghost use Rattle.node_shapes.specs.Streams.{are_trees};
 ghost use Rattle.proc_macro2.specs.Flat.{spanned};
 ghost use Rattle.proc_macro2.specs.Token.{Closes, Opens};
 ghost use Rattle.std.specs.Prelude.{[], ◌∷◌, ◌++◌, ◌-◌, ◌≡◌, ◌<◌, ◌≤◌, IfOk, IsTrue, OnOk, drop, length};
-ghost use Rattle.std.specs.Prelude.{slice_set, take, ℕ};
+ghost use Rattle.std.specs.Prelude.{List, map, slice_set, take, true, ℕ};
 ghost use Rattle.syn_buffer.specs.Behind.{Passes};
-ghost use Rattle.syn_buffer.specs.Entries.{is_whole, spanned_entries};
+ghost use Rattle.syn_buffer.specs.Entries.{entry_token, is_whole, spanned_entries};
 ghost use Rattle.syn_buffer.specs.Position.{rest};
 ghost use Rattle.syn_buffer.specs.Puts.{Puts};
 ghost use Rattle.syn_buffer.specs.declared.entry.Entry.TheVariants as marks;
+ghost use Rattle.syn_buffer.specs.declared.entry.Entry.{Entry as GivenEntry};
 
 use proc_macro2::delimiter::Delimiter;
 use rust_map::span::Span;
@@ -82,6 +84,12 @@ fn close(
     entries.push(Entry::Close(delimiter, span))?;
     Ok(())
 }
+
+/// Entries that are whole trees are tokens of trees.
+#[tactic(auto, using(crate::proofs::Standing::whole_are_trees))]
+pub fn whole_are_trees()
+    ensures { (es : List GivenEntry) → is_whole es ≡ true → are_trees (map entry_token es) ≡ true }
+{}
 
 /// What is seen from the place to the end of its list, as entries. They are whole trees.
 ///
