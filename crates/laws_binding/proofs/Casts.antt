@@ -26,6 +26,7 @@ use Rattle.syn_grammar.specs.Normal.{place_of, passed, normal_in, normal}
 use Rattle.syn_grammar.specs.Parens.{ends_in_name}
 use Rattle.laws_binding.proofs.Leads.{is_nil}
 use Rattle.laws_binding.proofs.Turns.{lone_less}
+use Rattle.laws_binding.proofs.Sights.{both}
 use Rattle.std.specs.Prelude.{codes}
 use Rattle.std.proofs.lemmas.Slice.Eq.{bytes_eq-Decides}
 
@@ -181,10 +182,6 @@ closed_then {n} {a} {b} h i = record { at = go }
     go q _ r d l m = elim d [ ]
 
 -- where a < is always taken, and something may stand behind
-taken : (b : Bool) → b ≡ true → b ≡ false → ⊥
-taken true e f = cc
-taken false e f = cc
-
 last_shut : {n : ℕ} {t u v : List Token → Bool} {a b c : Gram}
     → ((r : List Token) → sees lone_less r ≡ true → t r ≡ true) → Shut n a → Shut n b → Shut n c
     → Shut n (alt t a (alt u b (alt v c nothing)))
@@ -196,7 +193,7 @@ last_shut {n} {t} {u} {v} {a} {b} {c} f h i j = record { at = go }
     go q (Second (First x)) r d l m = i.at q x r d.1.1 l m
     go q (Second (Second (First x))) r d l m = j.at q x r d.1.1.1 l m
     go q (Second (Second (Second x))) r d l m =
-        absurd (taken (t r) (f r l) (subst (λ w. t (flat w ++ r) ≡ false) (is_nil x r d.1.1.1) d.0))
+        absurd (both (t r) (f r l) (subst (λ w. t (flat w ++ r) ≡ false) (is_nil x r d.1.1.1) d.0))
     go q (Second (Second _)) r d l m = elim d.1.1 [ ]
     go q (Second _) r d l m = elim d.1 [ ]
     go q _ r d l m = elim d [ ]
@@ -230,7 +227,7 @@ bound_in : {n : ℕ} → Shut n (ref TraitPath) → (b : Tree) (r : List Token) 
     → sees a_lifetime (flat b ++ r) ≡ false → sees lone_less r ≡ true → nodes b ≤ n
     → NoName (flat (normal_in Plain (kept (Node Bound b))))
 unfolding table held passed place_of
-bound_in h (First x) r d f l m = absurd (taken _ d.0 f)
+bound_in h (First x) r d f l m = absurd (both _ d.0 f)
 bound_in h (Second (Called c t)) r d f l m = h.at (place_of c) t r d.1.1 l m
 bound_in h (Second _) r d f l m = elim d.1 [ ]
 bound_in h _ r d f l m = elim d [ ]

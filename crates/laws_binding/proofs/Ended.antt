@@ -1,117 +1,45 @@
 -- A left operand that was read is ended before the form behind it.
-use Rattle.std.proofs.Common.{◌≡◌, ℕ, List, [], ◌∷◌, ◌++◌, refl, sym, ap, ◌∙◌, subst, append_assoc, inl, inr}
-use Rattle.std.specs.Prelude.{Bool, true, false, not, ◌&&◌, ◌||◌, ◌⊎◌, cond, nat_eq, Option, Some, None}
+use Rattle.std.proofs.Common.{◌≡◌, ℕ, List, ◌++◌, refl, sym, ap, ◌∙◌, subst, inl, inr}
+use Rattle.std.specs.Prelude.{Bool, true, false, not, ◌&&◌, ◌||◌, ◌⊎◌, nat_eq, Some}
 use Rattle.std.proofs.lemmas.Bool.{and_from}
 use Rattle.std.proofs.lemmas.Bool.{false≢true}
-use Rattle.proc_macro2.specs.Token.{Token, Ident, Literal, Punct}
-use Rattle.rust_leaf.specs.declared.punct.Spacing.{Spacing}
-use Rattle.rust_leaf.specs.declared.punct.Spacing.TheVariants.{Alone as Apart, Joint}
+use Rattle.proc_macro2.specs.Token.{Token}
 use Rattle.syn_grammar.specs.Kind.{Kind, Position, Plain, InCondition, InArm, InStatement, ExprCall, ExprMethodCall}
 use Rattle.syn_grammar.specs.Kind.{ExprField, ExprAwait, ExprIndex, ExprTry, ExprCast, ExprAttributed, ExprUnary}
 use Rattle.syn_grammar.specs.Kind.{ExprRawAddr, ExprReference, ExprLet, ExprBreak, ExprReturn, ExprYield}
 use Rattle.syn_grammar.specs.Kind.{ExprClosure, ExprRange, ExprRangeClosed, ExprStruct, ExprAssign, ExprOr, ExprAnd}
 use Rattle.syn_grammar.specs.Kind.{ExprCompare, ExprBitOr, ExprBitXor, ExprBitAnd, ExprShift, ExprSum, ExprProduct}
-use Rattle.syn_grammar.specs.Name.{the_name, the_value, the_indices, same_part}
+use Rattle.syn_grammar.specs.Name.{the_name, the_value, same_part}
 use Rattle.syn_grammar.specs.Part.{has}
-use Rattle.syn_grammar.specs.Words.{is_ident, are_indices, ends_in_dot}
-use Rattle.syn_grammar.specs.Tree.{Tree, AWord, ALiteral, AMark, Pair, First, Second, End, Again, Called, Alone}
-use Rattle.syn_grammar.specs.Tree.{Front, Back, Infix, marks as mark_tokens, flat}
-use Rattle.syn_grammar.specs.Gram.{Gram, word, literal, mark, seq, alt, star, called}
-use Rattle.syn_grammar.specs.Look.{seen, sees, behind, first_seen, ◌then◌, ◌or◌, an_ident, a_quoted, past_literals}
-use Rattle.syn_grammar.specs.Say.{marks, parenthesis}
+use Rattle.syn_grammar.specs.Tree.{Tree, ALiteral, Pair, Second, End, Called, Alone, Front, Back, Infix, flat}
+use Rattle.syn_grammar.specs.Look.{sees}
+use Rattle.syn_grammar.specs.Expressions.{postfix_stands}
 use Rattle.syn_grammar.specs.Table.{table}
 use Rattle.syn_grammar.specs.Derives.{Derives, Bound}
 use Rattle.syn_grammar.specs.Kept.{dotted, kept}
 use Rattle.syn_grammar.specs.Normal.{place_of, normal}
 use Rattle.syn_grammar.specs.Forms.{back, level, inside, takes_postfix, may_be_left, ends_there, is_dotted}
-use Rattle.syn_grammar.specs.Forms.{stands_left, takes, takes_kind, goes_on, dot_stands}
+use Rattle.syn_grammar.specs.Forms.{stands_left, takes, takes_kind, goes_on}
 use Rattle.syn_grammar.specs.Parens.{is_struct, ends_in_name, ends_before, is_ended}
 use Rattle.laws_binding.specs.Bare.{bare}
 use Rattle.laws_binding.proofs.Turns.{Facts, lone_less}
 use Rattle.laws_binding.proofs.Sights.{is_back, is_postfix, backs_are, back_same, starts_plain, postfix_seen}
-use Rattle.laws_binding.proofs.Sights.{field_alone, call_seen}
+use Rattle.laws_binding.proofs.Sights.{both}
+use Rattle.laws_binding.proofs.Fields.{Numbered, numbered}
 use Rattle.laws_binding.proofs.Shells.{is_dot, each_dot, undotted, behind_dot, dotted_has, dotted_own}
 use Rattle.laws_binding.proofs.Same.{may_same}
 use Rattle.laws_binding.proofs.Casts.{cast_ends, cast_no_postfix}
 
--- behind a field's name no parenthesis stands: it would be a method
-abbrev numbers : Gram
-numbers = star (sees (a_quoted ends_in_dot)) (literal are_indices)
-
-passes : (b : Bool) (ts : List Token) → seen (cond b (Some ts) None) ≡ true → b ≡ true
-passes true ts e = refl
-passes false ts e = cc
-
-past_numbers : (w : Tree) (cs : List ℕ) (rest : List Token) → Derives w numbers (Ident cs ∷ rest)
-    → past_literals ends_in_dot (flat w ++ (Ident cs ∷ rest)) ≡ Some (Ident cs ∷ rest)
-past_numbers End cs rest d = refl
-past_numbers (Again (ALiteral ds) w) cs rest d =
-    ap (λ b. cond b (past_literals ends_in_dot (flat w ++ (Ident cs ∷ rest)))
-    (Some (Literal ds ∷ (flat w ++ (Ident cs ∷ rest))))) (passes (ends_in_dot ds) _ d.0)
-    ∙ past_numbers w cs rest d.2
-past_numbers (Again _ w) cs rest d = elim d.1 [ ]
-past_numbers _ cs rest d = elim d [ ]
-
-dot_then : (i : Spacing) (w : Tree) (cs : List ℕ) (rest : List Token) → Derives w numbers (Ident cs ∷ rest)
-    → dot_stands (Punct 46 i ∷ (flat w ++ (Ident cs ∷ rest))) ≡ past_literals ends_in_dot (flat w ++ (Ident cs ∷ rest))
-dot_then Apart End cs rest d = refl
-dot_then Joint End cs rest d = refl
-dot_then Apart (Again (ALiteral ds) w) cs rest d = refl
-dot_then Joint (Again (ALiteral ds) w) cs rest d = refl
-dot_then i (Again _ w) cs rest d = elim d.1 [ ]
-dot_then i _ cs rest d = elim d [ ]
-
-left_first : (o p : Option (List Token)) → seen o ≡ true → seen (first_seen o p) ≡ true
-left_first None p e = cc
-left_first (Some ts) p e = refl
-
-method_seen : (i : Spacing) (w : Tree) (cs : List ℕ) (rest : List Token) → Derives w numbers (Ident cs ∷ rest)
-    → is_ident cs ≡ true → sees parenthesis rest ≡ true
-    → seen ((dot_stands then an_ident then (parenthesis or marks "::")) (Punct 46 i ∷ (flat w ++ (Ident cs ∷ rest))))
-    ≡ true
-method_seen i w cs rest d e f =
-    ap (λ o. seen (behind o (an_ident then (parenthesis or marks "::"))))
-    (dot_then i w cs rest d ∙ past_numbers w cs rest d)
-    ∙ ap (λ b. seen (behind (cond b (Some rest) None) (parenthesis or marks "::"))) e ∙ left_first (parenthesis rest)
-    (marks "::" rest) f
-
-both : (b : Bool) → b ≡ true → b ≡ false → ⊥
-both true e f = cc
-both false e f = cc
-
-abbrev field_entry : Gram
-field_entry = seq (seq (mark 46 []) (called the_indices numbers))
-    (alt (sees an_ident) (called the_name (word is_ident)) (called the_value (literal are_indices)))
-
 -- such a field has no name
-unnamed_at : (q : Position) (rest : List Token) (y : Tree) → Derives y field_entry rest → back q (flat y ++ rest)
-    ≡ Some ExprField → sees parenthesis rest ≡ true → (w z : Tree) → kept y ≡ behind_dot w z
-    → has the_name (normal (behind_dot End z)) ≡ false
+unnamed : (y : Tree) → Numbered y → (w z : Tree) → kept y ≡ behind_dot w z → has the_name (normal (behind_dot End z))
+    ≡ false
 unfolding same_part place_of
-unnamed_at q rest (Pair u (Second (Called m x))) d e f w z g =
+unnamed y n w z g =
     subst (λ v. has the_name (normal (behind_dot End v)) ≡ false)
-    (second_is (kept u) (Second (Called m (kept x))) _ z g)
-    (subst (λ n. has the_name (normal (behind_dot End (Second (Called n (kept x))))) ≡ false) (sym d.1.1.0) refl)
+    (second_is _ (Second (Called the_value (kept n.value))) _ z (ap kept (sym n.is) ∙ g)) refl
   where
     second_is : (a b c z : Tree) → Pair a b ≡ Pair c z → b ≡ z
     second_is a b c z e = cc
-unnamed_at q rest (Pair (Pair (AMark c cs i) (Called n v)) (First (Called m (AWord ds)))) d e f w z g =
-    absurd (both _ (method_seen i v ds rest d.0.1.1 d.1.1.1 f) (field_alone q _ (ap (back q) (sym here) ∙ e)))
-  where
-    here : flat (Pair (Pair (AMark c cs i) (Called n v)) (First (Called m (AWord ds)))) ++ rest
-        ≡ Punct 46 i ∷ (flat v ++ (Ident ds ∷ rest))
-    here =
-        ap (λ b. ((mark_tokens b cs i ++ flat v) ++ (Ident ds ∷ [])) ++ rest) d.0.0.0
-        ∙ ap (λ bs. ((mark_tokens 46 bs i ++ flat v) ++ (Ident ds ∷ [])) ++ rest) d.0.0.1
-        ∙ ap (λ ts. Punct 46 i ∷ ts) (append_assoc (flat v) (Ident ds ∷ []) rest)
-unnamed_at q rest (Pair (Pair (AMark c cs i) (Called n v)) (First (Called m _))) d e f w z g = elim d.1.1.1 [ ]
-unnamed_at q rest (Pair (Pair (AMark c cs i) (Called n v)) (First _)) d e f w z g = elim d.1.1 [ ]
-unnamed_at q rest (Pair (Pair (AMark c cs i) _) (First x)) d e f w z g = elim d.0.1 [ ]
-unnamed_at q rest (Pair (Pair _ v) (First x)) d e f w z g = elim d.0.0 [ ]
-unnamed_at q rest (Pair _ (First x)) d e f w z g = elim d.0 [ ]
-unnamed_at q rest (Pair u (Second _)) d e f w z g = elim d.1.1 [ ]
-unnamed_at q rest (Pair u _) d e f w z g = elim d.1 [ ]
-unnamed_at q rest _ d e f w z g = elim d [ ]
 
 name_off : (k : Kind) (us : List Token) (y : Tree) → (k ≡ ExprCall → has the_name y ≡ false)
     → ends_before k us ExprField y ≡ true
@@ -121,9 +49,8 @@ name_off _ us y h = refl
 field_before : (k : Kind) (q : Position) (rest us : List Token) (y : Tree) → Derives y (table ExprField) rest
     → back q (flat y ++ rest) ≡ Some ExprField → back q rest ≡ Some k → (w z : Tree) → kept y ≡ behind_dot w z
     → ends_before k us ExprField (normal (behind_dot End z)) ≡ true
-unfolding table
 field_before k q rest us y d e f w z g =
-    name_off k us (normal (behind_dot End z)) (λ c. unnamed_at q rest y d e (call_seen q rest (f ∙ ap Some c)) w z g)
+    name_off k us (normal (behind_dot End z)) (λ c. unnamed y (numbered q q rest y d e (f ∙ ap Some c)) w z g)
 
 dot_before : (j k : Kind) (q : Position) (rest us : List Token) (y : Tree) → is_dot j ≡ true → Derives y (table j) rest
     → back q (flat y ++ rest) ≡ Some j → back q rest ≡ Some k → (w z : Tree) → kept y ≡ behind_dot w z
@@ -137,7 +64,15 @@ index_name : (cs : List ℕ) → has the_name (normal (behind_dot End (Second (C
 unfolding same_part
 index_name cs = refl
 
--- a cast
+-- behind a cast no postfix form stands
+pub behind_cast : (k : Kind) (q : Position) (rest : List Token) (y : Tree) → Derives y (table ExprCast) rest
+    → back q rest ≡ Some k → is_postfix k ≡ false
+behind_cast k q rest y d e = go (is_postfix k) refl
+  where
+    go : (b : Bool) → is_postfix k ≡ b → b ≡ false
+    go true i = absurd (both (sees postfix_stands rest) (postfix_seen q k rest e i) (cast_no_postfix y rest d))
+    go false i = refl
+
 top_postfix : (k : Kind) → is_back k ≡ true → is_struct k ≡ false → nat_eq (level k) 16 ≡ true → is_postfix k ≡ true
 unfolding level
 top_postfix ExprCall b s e = refl
@@ -185,8 +120,7 @@ cast_before k q rest us y d e s f =
     (go (nat_eq (level k) 16) refl) (less f.less)
   where
     go : (b : Bool) → nat_eq (level k) 16 ≡ b → b ≡ false
-    go true g = absurd (both _ (postfix_seen q k rest e (top_postfix k (backs_are q k rest e) s g))
-        (cast_no_postfix y rest d))
+    go true g = absurd (both _ (top_postfix k (backs_are q k rest e) s g) (behind_cast k q rest y d e))
     go false g = refl
 
     less : (sees lone_less us ≡ false) ⊎ (sees lone_less rest ≡ true)

@@ -24,13 +24,12 @@ use Rattle.syn_grammar.specs.Parens.{is_struct, is_ended, ends_before, stands_in
 use Rattle.syn_grammar.proofs.Whole.{and_true}
 use Rattle.laws_binding.specs.Bare.{bare}
 use Rattle.laws_binding.proofs.Turns.{is_infix, is_last}
-use Rattle.laws_binding.proofs.Sights.{is_back, backs_are, brace_struct}
+use Rattle.laws_binding.proofs.Sights.{is_back, both, backs_are, brace_struct}
 use Rattle.laws_binding.proofs.Shells.{is_dot, each_dot}
 use Rattle.laws_binding.proofs.Same.{may_same, chains_same, ends_same}
 use Rattle.laws_binding.proofs.Ended.{Edge}
 use Rattle.laws_binding.proofs.Stays.{Behind}
 use Rattle.laws_binding.proofs.Stays.{takes_none, back_braces}
-use Rattle.laws_binding.proofs.Stays.{both}
 
 -- which forms stand behind an operand with one behind them, and without
 pub last_kind : (k : Kind) (p : Position) (ts : List Token) → is_back k ≡ true → is_struct k ≡ false → has_right p k ts

@@ -5,6 +5,7 @@ pub mod Sights
 pub mod Shells
 pub mod Same
 pub mod Casts
+pub mod Fields
 pub mod Ended
 pub mod Stays
 pub mod Fits

@@ -24,20 +24,22 @@ Each : Type 0 → List Look → List Token → Type 0
 Each Q [] ts = Unit {0}
 Each Q (l ∷ looks) ts = (seen (l ts) ≡ true → Q) × Each Q looks ts
 
+-- no truth value is both
+pub both : (b : Bool) → b ≡ true → b ≡ false → ⊥
+both true e f = cc
+both false e f = cc
+
+-- what passes, of a kind that is the same
+passes : (p : Kind → Bool) (j k : Kind) → p k ≡ true → Some j ≡ Some k → p j ≡ true
+passes p j k e d = cc
+
 -- if a form that passes is the first that is seen, what each such form says where it is seen is so
 some_case : (Q : Type 0) (p : Kind → Bool) (j k : Kind) (l : Look) (looks : List Look) (ts : List Token)
     (o : Option Kind) (b c : Bool) → p j ≡ c → seen (l ts) ≡ b → Each Q (cond c (l ∷ looks) looks) ts
     → (Each Q looks ts → o ≡ Some k → Q) → p k ≡ true → cond b (Some j) o ≡ Some k → Q
 unfolding Each
 some_case Q p j k l looks ts o true true f g h i e d = h.0 g
-some_case Q p j k l looks ts o true false f g h i e d = absurd (not_both (p j) f (passes p j k e d))
-  where
-    passes : (p : Kind → Bool) (j k : Kind) → p k ≡ true → Some j ≡ Some k → p j ≡ true
-    passes p j k e d = cc
-
-    not_both : (b : Bool) → b ≡ false → b ≡ true → ⊥
-    not_both true e f = cc
-    not_both false e f = cc
+some_case Q p j k l looks ts o true false f g h i e d = absurd (both (p j) (passes p j k e d) f)
 some_case Q p j k l looks ts o false true f g h i e d = i h.1 d
 some_case Q p j k l looks ts o false false f g h i e d = i h d
 
@@ -114,7 +116,7 @@ is_postfix ExprIndex = true
 is_postfix ExprTry = true
 is_postfix _ = false
 
-seen_left : (o p : Option (List Token)) → seen o ≡ true → seen (first_seen o p) ≡ true
+pub seen_left : (o p : Option (List Token)) → seen o ≡ true → seen (first_seen o p) ≡ true
 seen_left None p e = cc
 seen_left (Some ts) p e = refl
 
@@ -193,9 +195,6 @@ skip_one : (p : Kind → Bool) (j k : Kind) (b : Bool) (o : Option Kind) → not
     → cond b (Some j) o ≡ Some k → o ≡ Some k
 skip_one p j k true o n i e = absurd (not_both (p j) n (passes p j k i e))
   where
-    passes : (p : Kind → Bool) (j k : Kind) → p k ≡ true → Some j ≡ Some k → p j ≡ true
-    passes p j k e d = cc
-
     not_both : (b : Bool) → not b ≡ true → b ≡ true → ⊥
     not_both true e f = cc
     not_both false e f = cc

@@ -28,7 +28,7 @@ use Rattle.laws_binding.proofs.Leads.{is_nil}
 use Rattle.laws_binding.proofs.Begun.{Begun, a_word as begun_word, a_literal, an_opening}
 use Rattle.laws_binding.proofs.Begun.{a_lifetime as begun_lifetime, colons}
 use Rattle.laws_binding.proofs.Turns.{Begins, Facts}
-use Rattle.laws_binding.proofs.Sights.{is_back}
+use Rattle.laws_binding.proofs.Sights.{is_back, both}
 use Rattle.laws_binding.proofs.Same.{range_same, within_same, all_begun}
 
 -- no operand is put in parentheses
@@ -138,10 +138,6 @@ begun_right _ us (a_literal cs) q k m h =
 begun_right _ us _ q k m h = facts_right true us (record { operand = refl; range = refl; no_brace = refl }) q k m
 
 -- a lifetime behind break
-pub both : (b : Bool) → b ≡ true → b ≡ false → ⊥
-both true e f = cc
-both false e f = cc
-
 pub no_colon : (ts us : List Token) → Begun ts us → sees (marks ":") ts ≡ false → sees (marks ":") us ≡ false
 no_colon _ _ (colons i j) e = cc
 no_colon _ _ (a_literal cs) e = refl

@@ -22,7 +22,7 @@ use Rattle.syn_grammar.specs.Normal.{stands_behind, normal, formed}
 use Rattle.syn_grammar.proofs.Whole.{and_true}
 use Rattle.laws_binding.proofs.Begun.{Begun, more, begun}
 use Rattle.laws_binding.proofs.Leads as Leads
-use Rattle.laws_binding.proofs.Sights.{is_back, backs_are}
+use Rattle.laws_binding.proofs.Sights.{is_back, both, backs_are}
 use Rattle.laws_ranges.specs.Shelled.{is_lone_range, goes_in, parens_if, shelled}
 use Rattle.laws_ranges.proofs.Parens.{range_shelled}
 use Rattle.laws_ranges.specs.Opens.{opens, opens_given}
@@ -344,10 +344,6 @@ range_keeps a (Infix l k y r) e =
     ap (λ b. cond b (Front ExprAttributed a (Infix l k y r)) (Infix (attributed a l) k y r)) e
 range_keeps a (Back l ExprCast y) e = cc
 range_keeps a _ e = refl
-
-both : (b : Bool) → b ≡ true → b ≡ false → ⊥
-both true e f = cc
-both false e f = cc
 
 -- one that has attributes of its own has no form on its left edge
 range_within : (x : Tree) → is_range x ≡ true → is_lone_range (kept x) ≡ false → within 15 (shelled (kept x)) ≡ true

@@ -18,7 +18,7 @@ use Rattle.syn_grammar.specs.Table.{table}
 use Rattle.syn_grammar.specs.Derives.{Derives, Bound}
 use Rattle.syn_grammar.specs.Kept.{index_field, dotted, kept}
 use Rattle.syn_grammar.specs.Normal.{stands_behind, normal, formed}
-use Rattle.syn_grammar.specs.Forms.{back, has_right, level, inside, is_range, takes_postfix, is_path_form}
+use Rattle.syn_grammar.specs.Forms.{has_right, level, inside, is_range, takes_postfix, is_path_form}
 use Rattle.syn_grammar.specs.Forms.{struct_stands, within}
 use Rattle.syn_grammar.specs.Parens.{may_lack, is_attributed_range, takes_braces, takes_what_follows, stays_left}
 use Rattle.syn_grammar.specs.Parens.{is_struct, is_ended, stands_in, begins_in, follow, stays_right}
@@ -26,13 +26,13 @@ use Rattle.syn_grammar.specs.Parens.{is_label, parens_unless, with_right, with_l
 use Rattle.laws_binding.specs.Bare.{bare}
 use Rattle.laws_binding.proofs.Begun.{Begun, a_lifetime as begun_lifetime, a_literal, colons}
 use Rattle.laws_binding.proofs.Turns.{Facts, facts, Turn, is_infix, infix_turns, last_turns}
-use Rattle.laws_binding.proofs.Sights.{begins, stands, backs_are}
+use Rattle.laws_binding.proofs.Sights.{both, begins, stands, backs_are}
 use Rattle.laws_binding.proofs.Shells.{is_dot, undotted, behind_dot, dotted_has, dotted_own}
 use Rattle.laws_binding.proofs.Same.{postfix_same, within_same, all_begun}
 use Rattle.laws_binding.proofs.Ended.{ended}
 use Rattle.laws_binding.proofs.Stays.{Behind, behind_end, behind_turn, behind_whole, whole_path, begun_right}
 use Rattle.laws_binding.proofs.Stays.{follow_plain, path_plain, takes_none, braces_none, right_stays}
-use Rattle.laws_binding.proofs.Stays.{facts_right, no_colon, both}
+use Rattle.laws_binding.proofs.Stays.{facts_right, no_colon}
 use Rattle.laws_binding.proofs.Fits.{last_kind, infix_kind, takes_top, path_right, struct_true, left_stays, left_edge}
 use Rattle.laws_binding.proofs.Fits.{dot_ended, dot_left, dot_stands, dot_takes, dot_postfix, index_value}
 use Rattle.laws_binding.proofs.Fits.{struct_path, struct_undotted, infix_no_struct, back_takes}
