@@ -1,6 +1,6 @@
--- What holds of every group, of all punctuations and of all raw tokens of a tree holds of those of what is kept, and of
--- its normal form.
-use Rattle.std.proofs.Common.{◌≡◌, ℕ, List, [], ◌∷◌, refl, sym, subst}
+-- What holds of every group, of all words, literals and punctuations and of all raw tokens of a tree holds of those of
+-- what is kept, and of its normal form.
+use Rattle.std.proofs.Common.{◌≡◌, ℕ, List, [], ◌∷◌, codes, refl, sym, subst}
 use Rattle.std.specs.Prelude.{Bool, true, false, ◌&&◌, not, nat_eq, cond}
 use Rattle.std.proofs.lemmas.Bool.{false≢true}
 use Rattle.proc_macro2.specs.Token.{Token}
@@ -15,7 +15,7 @@ use Rattle.syn_grammar.specs.Kind.{Meta, Member, Index, Arm, AnArgument, ConstPa
 use Rattle.syn_grammar.specs.Kind.{Items, ForeignItems, TraitItems, ImplItems, Statements}
 use Rattle.syn_grammar.specs.Name.{Part, same_part, the_unnamed, the_attributes, the_expression, the_indices, the_value}
 use Rattle.syn_grammar.specs.Name.{the_comma, the_arguments, the_generics}
-use Rattle.syn_grammar.specs.Words.{indices}
+use Rattle.syn_grammar.specs.Words.{indices, plain_decimal}
 use Rattle.syn_grammar.specs.Tree.{Tree, AWord, ALiteral, AMark, ALifetime, Raw, Nil, Pair, First, Second, End, Again}
 use Rattle.syn_grammar.specs.Tree.{Final, More, Group, Dropped, Called, Verbatim, Hidden, Node, Whole, Alone, Front}
 use Rattle.syn_grammar.specs.Tree.{Back, Infix, flat}
@@ -56,39 +56,50 @@ NodeOf true b Q (Verbatim x) e l = Q (flat x)
 NodeOf true b Q x e l = e
 
 -- What is asked: of an element of a row, before those behind it, in place of what is asked of it elsewhere; of
--- delimiters, of punctuations and separators, of raw tokens, and of raw items.
+-- delimiters, of words and lifetimes, of literals, of punctuations and separators, of raw tokens, and of raw items.
 abbrev mutual
-  pub Every : Bool → (Tree → Tree → Type 0 → Type 0) → (Delimiter → Type 0) → (ℕ → List ℕ → Spacing → Type 0)
-      → (List Token → Type 0) → (List Token → Type 0) → Tree → Type 0
-  Every S T D M P Q (AMark c cs spacing) = M c cs spacing
-  Every S T D M P Q (Raw ts) = P ts
-  Every S T D M P Q (Pair x y) = Every S T D M P Q x × Every S T D M P Q y
-  Every S T D M P Q (First x) = Every S T D M P Q x
-  Every S T D M P Q (Second x) = Every S T D M P Q x
-  Every S T D M P Q (Again x y) = Every S T D M P Q x × Every S T D M P Q y
-  Every S T D M P Q (Final x) = Every S T D M P Q x
-  Every S T D M P Q (More x c spacing y) = Every S T D M P Q x × M c [] spacing × Every S T D M P Q y
-  Every S T D M P Q (Group d x) = D d × Every S T D M P Q x
-  Every S T D M P Q (Dropped x) = Every S T D M P Q x
-  Every S T D M P Q (Called n x) = Every S T D M P Q x
-  Every S T D M P Q (Verbatim x) = P (flat x)
-  Every S T D M P Q (Node k x) =
-      NodeOf (is_item k) (is_row k && S) Q x (Every S T D M P Q x) (EveryTurn S T D M P Q x)
-  Every S T D M P Q (Whole x) = Every S T D M P Q x
-  Every S T D M P Q (Alone k y) = Every S T D M P Q y
-  Every S T D M P Q (Front k y x) = Every S T D M P Q y × Every S T D M P Q x
-  Every S T D M P Q (Back l k y) = Every S T D M P Q l × Every S T D M P Q y
-  Every S T D M P Q (Infix l k y r) = Every S T D M P Q l × Every S T D M P Q y × Every S T D M P Q r
-  Every S T D M P Q _ = Unit {0}
+  pub Every : Bool → (Tree → Tree → Type 0 → Type 0) → (Delimiter → Type 0) → (List ℕ → Type 0) → (List ℕ → Type 0)
+      → (ℕ → List ℕ → Spacing → Type 0) → (List Token → Type 0) → (List Token → Type 0) → Tree → Type 0
+  Every S T D W L M P Q (AWord cs) = W cs
+  Every S T D W L M P Q (ALiteral cs) = L cs
+  Every S T D W L M P Q (AMark c cs spacing) = M c cs spacing
+  Every S T D W L M P Q (ALifetime cs) = W cs
+  Every S T D W L M P Q (Raw ts) = P ts
+  Every S T D W L M P Q (Pair x y) = Every S T D W L M P Q x × Every S T D W L M P Q y
+  Every S T D W L M P Q (First x) = Every S T D W L M P Q x
+  Every S T D W L M P Q (Second x) = Every S T D W L M P Q x
+  Every S T D W L M P Q (Again x y) = Every S T D W L M P Q x × Every S T D W L M P Q y
+  Every S T D W L M P Q (Final x) = Every S T D W L M P Q x
+  Every S T D W L M P Q (More x c spacing y) = Every S T D W L M P Q x × M c [] spacing × Every S T D W L M P Q y
+  Every S T D W L M P Q (Group d x) = D d × Every S T D W L M P Q x
+  Every S T D W L M P Q (Dropped x) = Every S T D W L M P Q x
+  Every S T D W L M P Q (Called n x) = Every S T D W L M P Q x
+  Every S T D W L M P Q (Verbatim x) = P (flat x)
+  Every S T D W L M P Q (Node k x) =
+      NodeOf (is_item k) (is_row k && S) Q x (Every S T D W L M P Q x) (EveryTurn S T D W L M P Q x)
+  Every S T D W L M P Q (Whole x) = Every S T D W L M P Q x
+  Every S T D W L M P Q (Alone k y) = Every S T D W L M P Q y
+  Every S T D W L M P Q (Front k y x) = Every S T D W L M P Q y × Every S T D W L M P Q x
+  Every S T D W L M P Q (Back l k y) = Every S T D W L M P Q l × Every S T D W L M P Q y
+  Every S T D W L M P Q (Infix l k y r) = Every S T D W L M P Q l × Every S T D W L M P Q y × Every S T D W L M P Q r
+  Every S T D W L M P Q _ = Unit {0}
 
-  pub EveryTurn : Bool → (Tree → Tree → Type 0 → Type 0) → (Delimiter → Type 0) → (ℕ → List ℕ → Spacing → Type 0)
-      → (List Token → Type 0) → (List Token → Type 0) → Tree → Type 0
-  EveryTurn S T D M P Q (First x) = EveryTurn S T D M P Q x
-  EveryTurn S T D M P Q (Again x y) = T x y (Every S T D M P Q x) × EveryTurn S T D M P Q y
-  EveryTurn S T D M P Q End = Unit {0}
-  EveryTurn S T D M P Q x = ⊥
+  pub EveryTurn : Bool → (Tree → Tree → Type 0 → Type 0) → (Delimiter → Type 0) → (List ℕ → Type 0)
+      → (List ℕ → Type 0) → (ℕ → List ℕ → Spacing → Type 0) → (List Token → Type 0) → (List Token → Type 0) → Tree
+      → Type 0
+  EveryTurn S T D W L M P Q (First x) = EveryTurn S T D W L M P Q x
+  EveryTurn S T D W L M P Q (Again x y) = T x y (Every S T D W L M P Q x) × EveryTurn S T D W L M P Q y
+  EveryTurn S T D W L M P Q End = Unit {0}
+  EveryTurn S T D W L M P Q x = ⊥
 
--- nothing is asked of punctuations, and of an element of a row what is asked elsewhere
+-- nothing is asked of delimiters, of words and literals, or of punctuations, and of an element of a row what is asked
+-- elsewhere
+abbrev pub AnyDelimiter : Delimiter → Type 0
+AnyDelimiter d = Unit {0}
+
+abbrev pub AnyText : List ℕ → Type 0
+AnyText cs = Unit {0}
+
 abbrev pub AnyMark : ℕ → List ℕ → Spacing → Type 0
 AnyMark c cs spacing = Unit {0}
 
@@ -119,13 +130,13 @@ unfolding held
 held_item AnItem e = absurd (false≢true (sym e))
 held_item _ e = refl
 
-module _ (S : Bool) (T : Tree → Tree → Type 0 → Type 0) (D : Delimiter → Type 0)
+module _ (S : Bool) (T : Tree → Tree → Type 0 → Type 0) (D : Delimiter → Type 0) (W L : List ℕ → Type 0)
     (M : ℕ → List ℕ → Spacing → Type 0) (P Q : List Token → Type 0) where
   abbrev E : Tree → Type 0
-  E x = Every S T D M P Q x
+  E x = Every S T D W L M P Q x
 
   abbrev R : Tree → Type 0
-  R x = EveryTurn S T D M P Q x
+  R x = EveryTurn S T D W L M P Q x
 
   pub in_node : (k : Kind) (x : Tree) → is_item k ≡ false → is_row k && S ≡ false → E x → E (Node k x)
   in_node k x e f h =
@@ -149,12 +160,47 @@ module _ (S : Bool) (T : Tree → Tree → Type 0 → Type 0) (D : Delimiter →
   every_cond true x y c d = c
   every_cond false x y c d = d
 
-  -- punctuations that are added
-  module _ (colon : M 58 [] Apart) (dot : M 46 [] Apart) (comma : M 44 [] Apart) where
-    -- what is kept
+  -- where of no element of a row more is asked than of other trees
+  in_item : ((ts : List Token) → P ts → Q ts) → (x : Tree) → E x → E (Node AnItem x)
+  in_item f (Raw ts) h = f ts h
+  in_item f (Verbatim x) h = f (flat x) h
+  in_item f _ h = h
 
+  out_item : ((ts : List Token) → Q ts → P ts) → (x : Tree) → E (Node AnItem x) → E x
+  out_item f (Raw ts) h = f ts h
+  out_item f (Verbatim x) h = f (flat x) h
+  out_item f _ h = h
+
+  pub in_any : ((k : Kind) → is_row k && S ≡ false) → ((ts : List Token) → P ts → Q ts) → (k : Kind) (x : Tree) → E x
+      → E (Node k x)
+  in_any none f k x h = go (is_item k) refl
+    where
+      go : (b : Bool) → is_item k ≡ b → E (Node k x)
+      go false e = in_node k x e (none k) h
+      go true e = subst (λ i. E (Node i x)) (sym (item_kind k e)) (in_item f x h)
+
+  pub out_any : ((k : Kind) → is_row k && S ≡ false) → ((ts : List Token) → Q ts → P ts) → (k : Kind) (x : Tree)
+      → E (Node k x) → E x
+  out_any none f k x h = go (is_item k) refl
+    where
+      go : (b : Bool) → is_item k ≡ b → E x
+      go false e = out_node k x e (none k) h
+      go true e = out_item f x (subst (λ i. E (Node i x)) (item_kind k e) h)
+
+  module _ (n : Part) (f : Tree → Tree) (h : (x : Tree) → E x → E (f x)) where
+    every_changed : (x : Tree) → E x → E (changed n f x)
+    every_changed (Called m x) c = every_cond (same_part m n) (f x) x (h x c) c
+    every_changed (Pair x y) c = (every_changed x c.0, every_changed y c.1)
+    every_changed (First x) c = every_changed x c
+    every_changed (Second x) c = every_changed x c
+    every_changed (Group d x) c = (c.0, every_changed x c.1)
+    every_changed _ c = c
+
+  -- what is kept, where `_`, indices, `:` and `.` may be added
+  module _ (underscore : W (codes "_")) (index : (cs : List ℕ) → L (plain_decimal cs)) (colon : M 58 [] Apart)
+      (dot : M 46 [] Apart) where
     every_named : (x : Tree) → E x → E (named x)
-    every_named (Pair a (Second (Second (First (Called the_unnamed t))))) h = (h.0, (tt, (colon, h.1)))
+    every_named (Pair a (Second (Second (First (Called the_unnamed t))))) h = (h.0, (underscore, (colon, h.1)))
     every_named _ h = h
 
     every_listed : (x : Tree) → E x → E (listed_bound x)
@@ -192,8 +238,7 @@ module _ (S : Bool) (T : Tree → Tree → Type 0 → Type 0) (D : Delimiter →
     every_form_of (Node (Expression p) (Whole x)) h = h
     every_form_of _ h = h
 
-    every_statement : (a e s : Tree) → E a → E e → E s → E
-        (expression_statement a e s)
+    every_statement : (a e s : Tree) → E a → E e → E s → E (expression_statement a e s)
     every_statement a e s h i j =
         every_cond (is_macro (form_of e) && is_there s) _ _ (h, (every_own (form_of e) (every_form_of e i), j))
         (every_left a h, (every_given a e h i, j))
@@ -205,21 +250,12 @@ module _ (S : Bool) (T : Tree → Tree → Type 0 → Type 0) (D : Delimiter →
     every_as_statement _ h = h
 
     every_index : (x : Tree) → E x → E (plain_index x)
-    every_index (ALiteral cs) h = tt
+    every_index (ALiteral cs) h = index cs
     every_index _ h = h
 
     every_member : (x : Tree) → E x → E (plain_member x)
     every_member (Second x) h = every_index x h
     every_member _ h = h
-
-    module _ (n : Part) (f : Tree → Tree) (h : (x : Tree) → E x → E (f x)) where
-      every_changed : (x : Tree) → E x → E (changed n f x)
-      every_changed (Called m x) c = every_cond (same_part m n) (f x) x (h x c) c
-      every_changed (Pair x y) c = (every_changed x c.0, every_changed y c.1)
-      every_changed (First x) c = every_changed x c
-      every_changed (Second x) c = every_changed x c
-      every_changed (Group d x) c = (c.0, every_changed x c.1)
-      every_changed _ c = c
 
     every_not_last : (x : Tree) → E x → E (not_last x)
     every_not_last (First x) h = h
@@ -252,15 +288,14 @@ module _ (S : Bool) (T : Tree → Tree → Type 0 → Type 0) (D : Delimiter →
 
     every_fields : (l : Tree) (texts : List (List ℕ)) → E l → E (index_fields l texts)
     every_fields l [] h = h
-    every_fields l (cs ∷ texts) h = every_fields (index_field l cs) texts (h, ((dot, tt), tt))
+    every_fields l (cs ∷ texts) h = every_fields (index_field l cs) texts (h, ((dot, tt), index cs))
 
     every_in_front : (l x : Tree) → E l → E (fields_in_front l x)
-    every_in_front l (Again (ALiteral cs) x) h = every_in_front (index_fields l (indices cs)) x (every_fields l
-        (indices cs) h)
+    every_in_front l (Again (ALiteral cs) x) h =
+        every_in_front (index_fields l (indices cs)) x (every_fields l (indices cs) h)
     every_in_front l _ h = h
 
-    every_last : (l : Tree) (k : Kind) (d x : Tree) → E l → E d → E x → E
-        (last_fields l k d x)
+    every_last : (l : Tree) (k : Kind) (d x : Tree) → E l → E d → E x → E (last_fields l k d x)
     every_last l ExprField d (Second (Called the_value (ALiteral cs))) h i j = every_fields l (indices cs) h
     every_last l _ d x h i j = (h, ((i, tt), j))
 
@@ -275,8 +310,51 @@ module _ (S : Bool) (T : Tree → Tree → Type 0 → Type 0) (D : Delimiter →
     every_dotted l ExprAwait y h i = every_own_dots l ExprAwait y h i
     every_dotted l _ y h i = (h, i)
 
-    -- normal form
+    -- of a whole tree
+    module _ (still : (c : ℕ) (cs : List ℕ) (spacing : Spacing) → M c cs spacing → M c cs Apart)
+        (weaken : (ts : List Token) → P ts → Q ts) (none : (k : Kind) → is_row k && S ≡ false) where
+      item_kept : (x : Tree) → (E x → E (kept x)) → E (Node AnItem x) → E (Node AnItem (kept x))
+      item_kept (Raw ts) f h = h
+      item_kept (Verbatim x) f h = h
+      item_kept x f h = in_item weaken (kept x) (f h)
 
+      kept_node : (k : Kind) (x : Tree) (b : Bool) → is_item k ≡ b → (E x → E (kept x))
+          → E (Node k x) → E (Node (held k) (forget k (kept x)))
+      unfolding held
+      kept_node k x false e f h = in_node (held k) _ (held_item k e) (none (held k))
+          (every_forget k (kept x) (f (out_node k x e (none k) h)))
+      kept_node k x true e f h =
+          let j : k ≡ AnItem = item_kind k e in
+          subst (λ i. E (Node i x) → E (Node (held i) (forget i (kept x)))) (sym j) (item_kept x f) h
+
+      pub every_kept : (x : Tree) → E x → E (kept x)
+      every_kept (AWord cs) h = h
+      every_kept (ALiteral cs) h = h
+      every_kept (AMark c cs spacing) h = still c cs spacing h
+      every_kept (ALifetime cs) h = h
+      every_kept (Raw ts) h = h
+      every_kept Nil h = tt
+      every_kept (Pair x y) h = (every_kept x h.0, every_kept y h.1)
+      every_kept (First x) h = every_kept x h
+      every_kept (Second x) h = every_kept x h
+      every_kept End h = tt
+      every_kept (Again x y) h = (every_kept x h.0, every_kept y h.1)
+      every_kept (Final x) h = every_kept x h
+      every_kept (More x c spacing y) h = (every_kept x h.0, still c [] spacing h.1, every_kept y h.2)
+      every_kept (Group d x) h = (h.0, every_kept x h.1)
+      every_kept (Dropped x) h = tt
+      every_kept (Called n x) h = every_kept x h
+      every_kept (Verbatim x) h = h
+      every_kept (Hidden x) h = tt
+      every_kept (Node k x) h = kept_node k x (is_item k) refl (λ i. every_kept x i) h
+      every_kept (Whole x) h = every_kept x h
+      every_kept (Alone k y) h = every_kept y h
+      every_kept (Front k y x) h = (every_kept y h.0, every_kept x h.1)
+      every_kept (Back l k y) h = every_dotted (kept l) k (kept y) (every_kept l h.0) (every_kept y h.1)
+      every_kept (Infix l k y r) h = (every_kept l h.0, every_kept y h.1, every_kept r h.2)
+
+  -- normal form, where a `,` may be added
+  module _ (comma : M 44 [] Apart) where
     every_joined : (x y : Tree) → E x → E y → E (joined x y)
     every_joined x End c d = c
     every_joined x _ c d = (c, comma, d)
@@ -320,77 +398,28 @@ module _ (S : Bool) (T : Tree → Tree → Type 0 → Type 0) (D : Delimiter →
         (every_changed the_generics without_generics every_without x h)
     every_tidy _ x h = h
 
-    -- what is kept of a tree
-    module _ (still : (c : ℕ) (cs : List ℕ) (spacing : Spacing) → M c cs spacing → M c cs Apart)
-        (weaken : (ts : List Token) → P ts → Q ts) (none : (k : Kind) → is_row k && S ≡ false) where
-      item_any : (x : Tree) → E x → E (Node AnItem x)
-      item_any (Raw ts) h = weaken ts h
-      item_any (Verbatim x) h = weaken (flat x) h
-      item_any _ h = h
-
-      item_kept : (x : Tree) → (E x → E (kept x)) → E (Node AnItem x)
-          → E (Node AnItem (kept x))
-      item_kept (Raw ts) f h = h
-      item_kept (Verbatim x) f h = h
-      item_kept x f h = item_any (kept x) (f h)
-
-      kept_node : (k : Kind) (x : Tree) (b : Bool) → is_item k ≡ b → (E x → E (kept x))
-          → E (Node k x) → E (Node (held k) (forget k (kept x)))
-      unfolding held
-      kept_node k x false e f h = in_node (held k) _ (held_item k e) (none (held k))
-          (every_forget k (kept x) (f (out_node k x e (none k) h)))
-      kept_node k x true e f h =
-          let j : k ≡ AnItem = item_kind k e in
-          subst (λ i. E (Node i x) → E (Node (held i) (forget i (kept x)))) (sym j) (item_kept x f) h
-
-      pub every_kept : (x : Tree) → E x → E (kept x)
-      every_kept (AWord cs) h = tt
-      every_kept (ALiteral cs) h = tt
-      every_kept (AMark c cs spacing) h = still c cs spacing h
-      every_kept (ALifetime cs) h = tt
-      every_kept (Raw ts) h = h
-      every_kept Nil h = tt
-      every_kept (Pair x y) h = (every_kept x h.0, every_kept y h.1)
-      every_kept (First x) h = every_kept x h
-      every_kept (Second x) h = every_kept x h
-      every_kept End h = tt
-      every_kept (Again x y) h = (every_kept x h.0, every_kept y h.1)
-      every_kept (Final x) h = every_kept x h
-      every_kept (More x c spacing y) h = (every_kept x h.0, still c [] spacing h.1, every_kept y h.2)
-      every_kept (Group d x) h = (h.0, every_kept x h.1)
-      every_kept (Dropped x) h = tt
-      every_kept (Called n x) h = every_kept x h
-      every_kept (Verbatim x) h = h
-      every_kept (Hidden x) h = tt
-      every_kept (Node k x) h = kept_node k x (is_item k) refl (λ i. every_kept x i) h
-      every_kept (Whole x) h = every_kept x h
-      every_kept (Alone k y) h = every_kept y h
-      every_kept (Front k y x) h = (every_kept y h.0, every_kept x h.1)
-      every_kept (Back l k y) h = every_dotted (kept l) k (kept y) (every_kept l h.0) (every_kept y h.1)
-      every_kept (Infix l k y r) h = (every_kept l h.0, every_kept y h.1, every_kept r h.2)
-
--- normal form, with a parenthesis that may be added, and a raw item whose last mark is set apart
-module _ (S : Bool) (T U : Tree → Tree → Type 0 → Type 0) (D : Delimiter → Type 0)
-    (M : ℕ → List ℕ → Spacing → Type 0) (P Q : List Token → Type 0) (colon : M 58 [] Apart) (dot : M 46 [] Apart)
-    (comma : M 44 [] Apart) (still : (c : ℕ) (cs : List ℕ) (spacing : Spacing) → M c cs spacing → M c cs Apart)
+-- normal form, with a parenthesis that may be added too, and a raw item whose last mark is set apart
+module _ (S : Bool) (T U : Tree → Tree → Type 0 → Type 0) (D : Delimiter → Type 0) (W L : List ℕ → Type 0)
+    (M : ℕ → List ℕ → Spacing → Type 0) (P Q : List Token → Type 0) (comma : M 44 [] Apart)
+    (still : (c : ℕ) (cs : List ℕ) (spacing : Spacing) → M c cs spacing → M c cs Apart)
     (paren : D Parenthesis) (close : (ts : List Token) → Q ts → Q (apart ts))
-    (turn : (p : Position) (x y : Tree) → (Every S T D M P Q x
-    → Every S U D M P Q (apart_if (is_enclosed y (normal_in p y)) (normal_in p x))) → T x y (Every S T D M P Q x)
-    → U (apart_if (is_enclosed y (normal_in p y)) (normal_in p x)) (normal_in p y)
-    (Every S U D M P Q (apart_if (is_enclosed y (normal_in p y)) (normal_in p x))))
-    (stay : (x y : Tree) → (Every S T D M P Q x → Every S U D M P Q x) → T x y (Every S T D M P Q x)
-    → U x y (Every S U D M P Q x)) where
+    (turn : (p : Position) (x y : Tree) → (Every S T D W L M P Q x
+    → Every S U D W L M P Q (apart_if (is_enclosed y (normal_in p y)) (normal_in p x)))
+    → T x y (Every S T D W L M P Q x) → U (apart_if (is_enclosed y (normal_in p y)) (normal_in p x)) (normal_in p y)
+    (Every S U D W L M P Q (apart_if (is_enclosed y (normal_in p y)) (normal_in p x))))
+    (stay : (x y : Tree) → (Every S T D W L M P Q x → Every S U D W L M P Q x) → T x y (Every S T D W L M P Q x)
+    → U x y (Every S U D W L M P Q x)) where
   abbrev A : Tree → Type 0
-  A x = Every S T D M P Q x
+  A x = Every S T D W L M P Q x
 
   abbrev B : Tree → Type 0
-  B x = Every S U D M P Q x
+  B x = Every S U D W L M P Q x
 
   -- a tree as it is
   bare_node : (k : Kind) (x : Tree) (b c : Bool) → is_item k ≡ b → is_row k && S ≡ c → (A x → B x)
-      → (EveryTurn S T D M P Q x → EveryTurn S U D M P Q x) → A (Node k x) → B (Node k x)
-  bare_node k x false false e g f l h = in_node S U D M P Q k x e g (f (out_node S T D M P Q k x e g h))
-  bare_node k x false true e g f l h = in_row S U D M P Q k x e g (l (out_row S T D M P Q k x e g h))
+      → (EveryTurn S T D W L M P Q x → EveryTurn S U D W L M P Q x) → A (Node k x) → B (Node k x)
+  bare_node k x false false e g f l h = in_node S U D W L M P Q k x e g (f (out_node S T D W L M P Q k x e g h))
+  bare_node k x false true e g f l h = in_row S U D W L M P Q k x e g (l (out_row S T D W L M P Q k x e g h))
   bare_node k x true c e g f l h = subst (λ i. A (Node i x) → B (Node i x)) (sym (item_kind k e)) (go x f) h
     where
       go : (x : Tree) → (A x → B x) → A (Node AnItem x) → B (Node AnItem x)
@@ -400,10 +429,10 @@ module _ (S : Bool) (T U : Tree → Tree → Type 0 → Type 0) (D : Delimiter �
 
   mutual
     bare : (x : Tree) → A x → B x
-    bare (AWord cs) h = tt
-    bare (ALiteral cs) h = tt
+    bare (AWord cs) h = h
+    bare (ALiteral cs) h = h
     bare (AMark c cs spacing) h = h
-    bare (ALifetime cs) h = tt
+    bare (ALifetime cs) h = h
     bare (Raw ts) h = h
     bare Nil h = tt
     bare (Pair x y) h = (bare x h.0, bare y h.1)
@@ -425,7 +454,7 @@ module _ (S : Bool) (T U : Tree → Tree → Type 0 → Type 0) (D : Delimiter �
     bare (Back l k y) h = (bare l h.0, bare y h.1)
     bare (Infix l k y r) h = (bare l h.0, bare y h.1, bare r h.2)
 
-    bare_turns : (x : Tree) → EveryTurn S T D M P Q x → EveryTurn S U D M P Q x
+    bare_turns : (x : Tree) → EveryTurn S T D W L M P Q x → EveryTurn S U D W L M P Q x
     bare_turns (First x) h = bare_turns x h
     bare_turns (Again x y) h = (stay x y (λ i. bare x i) h.0, bare_turns y h.1)
     bare_turns End h = tt
@@ -452,14 +481,14 @@ module _ (S : Bool) (T U : Tree → Tree → Type 0 → Type 0) (D : Delimiter �
 
   tidied : (k : Kind) (p : Position) (x : Tree) (b c : Bool) → is_item k ≡ b → is_row k && S ≡ c
       → (A x → B (normal_in (passed k p) x))
-      → (EveryTurn S T D M P Q x → EveryTurn S U D M P Q (normal_in (passed k p) x))
+      → (EveryTurn S T D W L M P Q x → EveryTurn S U D W L M P Q (normal_in (passed k p) x))
       → A (Node k x) → B (Node k (tidy k (normal_in (passed k p) x)))
   tidied k p x false false e g f l h =
-      in_node S U D M P Q k _ e g (every_tidy S U D M P Q colon dot comma k (normal_in (passed k p) x)
-      (f (out_node S T D M P Q k x e g h)))
+      in_node S U D W L M P Q k _ e g (every_tidy S U D W L M P Q comma k (normal_in (passed k p) x)
+      (f (out_node S T D W L M P Q k x e g h)))
   tidied k p x false true e g f l h =
       subst (λ z. B (Node k z)) (sym (row_tidy k S (normal_in (passed k p) x) g))
-      (in_row S U D M P Q k (normal_in (passed k p) x) e g (l (out_row S T D M P Q k x e g h)))
+      (in_row S U D W L M P Q k (normal_in (passed k p) x) e g (l (out_row S T D W L M P Q k x e g h)))
   tidied k p x true c e g f l h =
       let j : k ≡ AnItem = item_kind k e in
       subst (λ i. (A x → B (normal_in (passed i p) x)) → A (Node i x)
@@ -467,10 +496,10 @@ module _ (S : Bool) (T U : Tree → Tree → Type 0 → Type 0) (D : Delimiter �
 
   mutual
     pub every_normal : (p : Position) (x : Tree) → A x → B (normal_in p x)
-    every_normal p (AWord cs) h = tt
-    every_normal p (ALiteral cs) h = tt
+    every_normal p (AWord cs) h = h
+    every_normal p (ALiteral cs) h = h
     every_normal p (AMark c cs spacing) h = still c cs spacing h
-    every_normal p (ALifetime cs) h = tt
+    every_normal p (ALifetime cs) h = h
     every_normal p (Raw ts) h = h
     every_normal p Nil h = tt
     every_normal p (Pair x y) h = (every_normal p x h.0, every_normal p y h.1)
@@ -523,7 +552,8 @@ module _ (S : Bool) (T U : Tree → Tree → Type 0 → Type 0) (D : Delimiter �
         )
     every_formed p ts x h = bare x h
 
-    turns_normal : (p : Position) (x : Tree) → EveryTurn S T D M P Q x → EveryTurn S U D M P Q (normal_in p x)
+    turns_normal : (p : Position) (x : Tree) → EveryTurn S T D W L M P Q x
+        → EveryTurn S U D W L M P Q (normal_in p x)
     turns_normal p (First x) h = turns_normal p x h
     turns_normal p (Again x y) h = (
       turn p x y (λ i. set_apart (is_enclosed y (normal_in p y)) (normal_in p x)

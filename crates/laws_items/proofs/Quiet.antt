@@ -28,7 +28,7 @@ use Rattle.syn_grammar.proofs.Whole.{and_true}
 use Rattle.syn_grammar.proofs.Marks.{all_calm}
 use Rattle.syn_grammar.proofs.Spaced.{loose, cut, spaced_behind, apart_same}
 use Rattle.laws_items.specs.Begins.{first_of, is_element}
-use Rattle.laws_items.proofs.Every.{is_item, is_row, in_node, every_forget, every_dotted, every_normal}
+use Rattle.laws_items.proofs.Every.{AnyText, is_item, is_row, in_node, every_forget, every_dotted, every_normal}
 use Rattle.laws_items.proofs.Fronts.{not_true, first_turn, kept_or_refused, lead, leads}
 use Rattle.laws_items.proofs.Statements.{Starts, TurnStarts, same_turn, turn_starts, node_case, first_passes}
 use Rattle.laws_items.proofs.Spacing.{alike, unquoted, apart_precedes, Loose, Printed, CalmMark, LooseTurn}
@@ -190,11 +190,13 @@ LooseStatement x ts =
 
 quiet_forget : (k : Kind) (x : Tree) → Quiet x → Quiet (forget k x)
 quiet_forget k x h =
-    every_forget true LooseTurn Printed CalmMark MayPrecede MayPrecede (refl, refl) (refl, refl) (refl, refl) k x h
+    every_forget true LooseTurn Printed AnyText AnyText CalmMark MayPrecede MayPrecede tt (λ cs. tt) (refl, refl)
+    (refl, refl) k x h
 
 quiet_dotted : (l : Tree) (k : Kind) (y : Tree) → Quiet l → Quiet y → Quiet (dotted l k y)
 quiet_dotted l k y h i =
-    every_dotted true LooseTurn Printed CalmMark MayPrecede MayPrecede (refl, refl) (refl, refl) (refl, refl) l k y h i
+    every_dotted true LooseTurn Printed AnyText AnyText CalmMark MayPrecede MayPrecede tt (λ cs. tt) (refl, refl)
+    (refl, refl) l k y h i
 
 as_turn : (k : Kind) (z : Tree) → k ≡ AStatement → Quiet (kept z) ⊎ LooseForm (kept z) (flat z)
     → Quiet (kept (Second (Node k z))) ⊎ LooseStatement (kept (Second (Node k z))) (flat z)
@@ -329,8 +331,8 @@ node_kept : (k : Kind) (x : Tree) (r : List Token) (b : Bool) → is_row k ≡ b
     → ((v : Tree → Verdict) → ((y : Tree) → v y ≡ AsRaw → ⊥) → Derives x (judged v (star (lacks the_end) turn_entry)) r
     → QuietTurns (kept x)) → Quiet (kept (Node k x))
 node_kept k x r false i e d h f g =
-    in_node true LooseTurn Printed CalmMark MayPrecede MayPrecede (held k) (forget k (kept x)) (element_item k e)
-    (held_row k i) (quiet_forget k (kept x) (h (all_tame k e i)))
+    in_node true LooseTurn Printed AnyText AnyText CalmMark MayPrecede MayPrecede (held k) (forget k (kept x))
+    (element_item k e) (held_row k i) (quiet_forget k (kept x) (h (all_tame k e i)))
 node_kept k x r true i e d h f g = row_kept k x r i d f g
 
 -- an entry's choices
@@ -512,8 +514,7 @@ mutual
 -- normal form
 still_normal : (p : Position) (x : Tree) → Quiet x → Still (normal_in p x)
 still_normal p x h =
-    every_normal true LooseTurn StandingTurn Printed CalmMark MayPrecede MayPrecede (refl, refl) (refl, refl)
-    (refl, refl)
+    every_normal true LooseTurn StandingTurn Printed AnyText AnyText CalmMark MayPrecede MayPrecede (refl, refl)
     (λ c cs i m. (m.0, refl)) refl (λ ts m. subst MayPrecede (sym (apart_same ts (m [] tt))) m) turned stayed p x h
   where
     turned : (p : Position) (x y : Tree)

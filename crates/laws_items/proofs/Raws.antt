@@ -2,7 +2,6 @@
 use Rattle.std.proofs.Common.{◌≡◌, List, [], ◌∷◌, refl, sym, ap, ◌∙◌, subst, inl, inr}
 use Rattle.std.specs.Prelude.{◌⊎◌, Bool, true, false}
 use Rattle.proc_macro2.specs.Token.{Token, Opens, Closes, Ident, Literal, Punct}
-use Rattle.proc_macro2.specs.declared.delimiter.Delimiter.{Delimiter}
 use Rattle.syn_grammar.specs.Kind.{Kind, Plain, AnItem}
 use Rattle.syn_grammar.specs.Tree.{Tree, Raw, Pair, First, Second, Again}
 use Rattle.syn_grammar.specs.Tree.{Final, More, Group, Dropped, Called, Verbatim, Node, Whole, Alone, Front}
@@ -10,15 +9,11 @@ use Rattle.syn_grammar.specs.Tree.{Back, Infix, flat}
 use Rattle.syn_grammar.specs.Kept.{kept}
 use Rattle.syn_grammar.specs.Normal.{apart, normal}
 use Rattle.laws_items.specs.Raws.{IsRaw, HasRaw, HasRawItem, IsSetApart}
-use Rattle.laws_items.proofs.Every.{Every, is_item, no_row, AnyMark, AnyTurn, item_kind, in_node, out_node}
-use Rattle.laws_items.proofs.Every.{every_kept, every_normal}
-
--- nothing is asked of groups
-abbrev AnyOne : Delimiter → Type 0
-AnyOne d = Unit {0}
+use Rattle.laws_items.proofs.Every.{Every, is_item, no_row, AnyDelimiter, AnyText, AnyMark, AnyTurn, item_kind}
+use Rattle.laws_items.proofs.Every.{in_node, out_node, every_kept, every_normal}
 
 abbrev AllRaw : (List Token → Type 0) → (List Token → Type 0) → Tree → Type 0
-AllRaw P Q x = Every false AnyTurn AnyOne AnyMark P Q x
+AllRaw P Q x = Every false AnyTurn AnyDelimiter AnyText AnyText AnyMark P Q x
 
 module _ (P Q : List Token → Type 0) where
   own_item : (x : Tree) → ((ts : List Token) → IsRaw ts x → Q ts) → AllRaw P Q x → AllRaw P Q (Node AnItem x)
@@ -31,7 +26,7 @@ module _ (P Q : List Token → Type 0) where
   of_node k x g h = go (is_item k) refl
     where
       go : (b : Bool) → is_item k ≡ b → AllRaw P Q (Node k x)
-      go false e = in_node false AnyTurn AnyOne AnyMark P Q k x e (no_row k) h
+      go false e = in_node false AnyTurn AnyDelimiter AnyText AnyText AnyMark P Q k x e (no_row k) h
       go true e =
           subst (λ i. AllRaw P Q (Node i x)) (sym (item_kind k e)) (own_item x (λ ts i. g ts (item_kind k e, i)) h)
 
@@ -78,7 +73,8 @@ module _ (P Q : List Token → Type 0) (ts : List Token) (R : Type 0) (f : P ts 
 
   one_node : (k : Kind) (x : Tree) (b : Bool) → is_item k ≡ b → (AllRaw P Q x → HasRaw ts x → R)
       → AllRaw P Q (Node k x) → HasRaw ts x → R
-  one_node k x false e r h i = r (out_node false AnyTurn AnyOne AnyMark P Q k x e (no_row k) h) i
+  one_node k x false e r h i =
+      r (out_node false AnyTurn AnyDelimiter AnyText AnyText AnyMark P Q k x e (no_row k) h) i
   one_node k x true e r h i = one_item x r (subst (λ j. AllRaw P Q (Node j x)) (item_kind k e) h) i
 
   either : {A B : Type 0} → (A → R) → (B → R) → A ⊎ B → R
@@ -143,8 +139,8 @@ pub kept_raws : (x : Tree) (ts : List Token) → HasRaw ts (kept x) → HasRaw t
 kept_raws x ts i =
     let P : List Token → Type 0 = λ us. HasRaw us x in
     one_own P P ts (HasRaw ts x) (λ h. h) (λ h. h) (kept x)
-    (every_kept false AnyTurn AnyOne AnyMark P P tt tt tt (λ c cs i h. h) (λ us h. h) no_row x
-    (all_own P P x (λ us h. h) (λ us h. raw_of x us h))) i
+    (every_kept false AnyTurn AnyDelimiter AnyText AnyText AnyMark P P tt (λ cs. tt) tt tt (λ c cs i h. h) (λ us h. h)
+    no_row x (all_own P P x (λ us h. h) (λ us h. raw_of x us h))) i
 
 -- set apart twice is set apart once
 some_apart : (t : Token) (ts : List Token) → apart (t ∷ ts) ≡ [] → ⊥
@@ -185,5 +181,5 @@ normal_raws x ts i =
     let P : List Token → Type 0 = λ us. HasRaw us x in
     let Q : List Token → Type 0 = AsItem x in
     one_own P Q ts (HasRaw ts x ⊎ IsSetApart ts x) (λ h. inl h) (λ h. as_read x ts h) (normal x)
-    (every_normal false AnyTurn AnyTurn AnyOne AnyMark P Q tt tt tt (λ c cs i h. h) tt (set_apart x) (λ p a b f h. f h)
-    (λ a b f h. f h) Plain x (all_own P Q x (λ us h. h) (λ us h. (us, h, inl refl)))) i
+    (every_normal false AnyTurn AnyTurn AnyDelimiter AnyText AnyText AnyMark P Q tt (λ c cs i h. h) tt (set_apart x)
+    (λ p a b f h. f h) (λ a b f h. f h) Plain x (all_own P Q x (λ us h. h) (λ us h. (us, h, inl refl)))) i

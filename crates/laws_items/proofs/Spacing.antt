@@ -19,7 +19,7 @@ use Rattle.syn_grammar.specs.Calm.{calm_marks, MayPrecede}
 use Rattle.syn_grammar.specs.Normal.{apart, apart_if, is_enclosed, normal_in}
 use Rattle.syn_grammar.proofs.Spaced.{next_any, marks_precede, both_precede}
 use Rattle.laws_items.specs.Begins.{unspaced, first_of}
-use Rattle.laws_items.proofs.Every.{Every, EveryTurn, is_item, is_row, item_kind, out_node, out_row}
+use Rattle.laws_items.proofs.Every.{Every, EveryTurn, AnyText, is_item, is_row, item_kind, out_node, out_row}
 use Rattle.laws_items.proofs.Fronts.{first_apart}
 use Rattle.laws_items.proofs.Statements.{Starts, TurnStarts}
 
@@ -120,16 +120,16 @@ StandingTurn x y e = e ⊎ Stands x y
 
 -- what is asked of what is kept, and of a normal form
 abbrev pub Quiet : Tree → Type 0
-Quiet x = Every true LooseTurn Printed CalmMark MayPrecede MayPrecede x
+Quiet x = Every true LooseTurn Printed AnyText AnyText CalmMark MayPrecede MayPrecede x
 
 abbrev pub QuietTurns : Tree → Type 0
-QuietTurns x = EveryTurn true LooseTurn Printed CalmMark MayPrecede MayPrecede x
+QuietTurns x = EveryTurn true LooseTurn Printed AnyText AnyText CalmMark MayPrecede MayPrecede x
 
 abbrev pub Still : Tree → Type 0
-Still x = Every true StandingTurn Printed CalmMark MayPrecede MayPrecede x
+Still x = Every true StandingTurn Printed AnyText AnyText CalmMark MayPrecede MayPrecede x
 
 abbrev pub StillTurns : Tree → Type 0
-StillTurns x = EveryTurn true StandingTurn Printed CalmMark MayPrecede MayPrecede x
+StillTurns x = EveryTurn true StandingTurn Printed AnyText AnyText CalmMark MayPrecede MayPrecede x
 
 -- such a normal form stands before all that is well spaced
 item_precedes : (x : Tree) → (Still x → MayPrecede (flat x)) → Still (Node AnItem x) → MayPrecede (flat x)
@@ -140,9 +140,9 @@ item_precedes x f h = f h
 node_precedes : (k : Kind) (x : Tree) (b c : Bool) → is_item k ≡ b → is_row k && true ≡ c
     → (Still x → MayPrecede (flat x)) → (StillTurns x → MayPrecede (flat x)) → Still (Node k x) → MayPrecede (flat x)
 node_precedes k x false false e g f l h =
-    f (out_node true StandingTurn Printed CalmMark MayPrecede MayPrecede k x e g h)
+    f (out_node true StandingTurn Printed AnyText AnyText CalmMark MayPrecede MayPrecede k x e g h)
 node_precedes k x false true e g f l h =
-    l (out_row true StandingTurn Printed CalmMark MayPrecede MayPrecede k x e g h)
+    l (out_row true StandingTurn Printed AnyText AnyText CalmMark MayPrecede MayPrecede k x e g h)
 node_precedes k x true c e g f l h = item_precedes x f (subst (λ i. Still (Node i x)) (item_kind k e) h)
 
 turn_precedes : (x y : Tree) → (Still x → MayPrecede (flat x)) → MayPrecede (flat y) → StandingTurn x y (Still x)

@@ -1,22 +1,25 @@
 -- What is read and printed holds no invisible group.
-use Rattle.std.proofs.Common.{◌≡◌, ℕ, List, [], ◌∷◌, ◌++◌, refl, sym, subst}
-use Rattle.std.specs.Prelude.{Bool, true, false, IsTrue}
+use Rattle.std.proofs.Common.{ℕ, List, [], ◌∷◌, ◌++◌, refl}
+use Rattle.std.specs.Prelude.{false, IsTrue}
 use Rattle.proc_macro2.specs.Token.{Token, Opens, Closes, Ident, Literal, Punct}
 use Rattle.proc_macro2.specs.declared.delimiter.Delimiter.{Delimiter}
 use Rattle.proc_macro2.specs.Spacing.{is_visible, IsWellSpaced}
 use Rattle.rust_leaf.specs.declared.punct.Spacing.{Spacing}
-use Rattle.syn_grammar.specs.Kind.{Kind, Plain, AnItem}
+use Rattle.syn_grammar.specs.Kind.{Kind, Plain}
 use Rattle.syn_grammar.specs.Tree.{Tree, AWord, ALiteral, AMark, ALifetime, Raw, Nil, Pair, First, Second, End, Again}
 use Rattle.syn_grammar.specs.Tree.{Final, More, Group, Dropped, Called, Verbatim, Hidden, Node, Whole, Alone, Front}
 use Rattle.syn_grammar.specs.Tree.{Back, Infix, marks, flat}
 use Rattle.syn_grammar.specs.Kept.{kept}
 use Rattle.syn_grammar.specs.Normal.{apart, normal}
 use Rattle.laws_items.specs.Visible.{AllVisible}
-use Rattle.laws_items.proofs.Every.{Every, is_item, no_row, AnyMark, AnyTurn, item_kind, in_node, out_node}
+use Rattle.laws_items.proofs.Every.{Every, no_row, AnyText, AnyMark, AnyTurn, in_any, out_any}
 use Rattle.laws_items.proofs.Every.{every_kept, every_normal}
 
+abbrev Printed : Delimiter → Type 0
+Printed d = IsTrue (is_visible d)
+
 abbrev V : Tree → Type 0
-V x = Every false AnyTurn (λ d. IsTrue (is_visible d)) AnyMark AllVisible AllVisible x
+V x = Every false AnyTurn Printed AnyText AnyText AnyMark AllVisible AllVisible x
 
 pub spaced_visible : (ts : List Token) → IsWellSpaced ts → AllVisible ts
 spaced_visible [] w = tt
@@ -63,20 +66,12 @@ of_apart (Closes d ∷ ts) v = (v.0, of_apart ts v.1)
 of_apart (Ident cs ∷ ts) v = of_apart ts v
 of_apart (Literal cs ∷ ts) v = of_apart ts v
 
-abbrev Printed : Delimiter → Type 0
-Printed d = IsTrue (is_visible d)
+-- of a node as of what stands in it
+into : (k : Kind) (x : Tree) → V x → V (Node k x)
+into k x h = in_any false AnyTurn Printed AnyText AnyText AnyMark AllVisible AllVisible no_row (λ ts i. i) k x h
 
-of_item : (x : Tree) → AllVisible (flat x) → V x → V (Node AnItem x)
-of_item (Raw ts) v h = v
-of_item (Verbatim x) v h = v
-of_item _ v h = h
-
-of_node : (k : Kind) (x : Tree) → AllVisible (flat x) → V x → V (Node k x)
-of_node k x v h = go (is_item k) refl
-  where
-    go : (b : Bool) → is_item k ≡ b → V (Node k x)
-    go false e = in_node false AnyTurn Printed AnyMark AllVisible AllVisible k x e (no_row k) h
-    go true e = subst (λ i. V (Node i x)) (sym (item_kind k e)) (of_item x v h)
+inner : (k : Kind) (x : Tree) → V (Node k x) → V x
+inner k x h = out_any false AnyTurn Printed AnyText AnyText AnyMark AllVisible AllVisible no_row (λ ts i. i) k x h
 
 of_tokens : (x : Tree) → AllVisible (flat x) → V x
 of_tokens (Raw ts) v = v
@@ -94,7 +89,7 @@ of_tokens (More x c spacing y) v = (
 of_tokens (Group d x) v = (v.0, of_tokens x (front (flat x) (Closes d ∷ []) v.1))
 of_tokens (Dropped x) v = of_tokens x v
 of_tokens (Called n x) v = of_tokens x v
-of_tokens (Node k x) v = of_node k x v (of_tokens x v)
+of_tokens (Node k x) v = into k x (of_tokens x v)
 of_tokens (Whole x) v = of_tokens x v
 of_tokens (Alone k y) v = of_tokens y v
 of_tokens (Front k y x) v = (of_tokens y (front (flat y) (flat x) v), of_tokens x (back (flat y) (flat x) v))
@@ -106,18 +101,6 @@ of_tokens (Infix l k y r) v =
       of_tokens r (back (flat y) (flat r) w),
     )
 of_tokens _ v = tt
-
-item_tokens : (x : Tree) → (V x → AllVisible (flat x)) → V (Node AnItem x) → AllVisible (flat x)
-item_tokens (Raw ts) f h = h
-item_tokens (Verbatim x) f h = h
-item_tokens x f h = f h
-
-node_tokens : (k : Kind) (x : Tree) → (V x → AllVisible (flat x)) → V (Node k x) → AllVisible (flat x)
-node_tokens k x f h = go (is_item k) refl
-  where
-    go : (b : Bool) → is_item k ≡ b → AllVisible (flat x)
-    go false e = f (out_node false AnyTurn Printed AnyMark AllVisible AllVisible k x e (no_row k) h)
-    go true e = item_tokens x f (subst (λ i. V (Node i x)) (item_kind k e) h)
 
 tokens : (x : Tree) → V x → AllVisible (flat x)
 tokens (AWord cs) h = tt
@@ -138,7 +121,7 @@ tokens (Dropped x) h = tokens x h
 tokens (Called n x) h = tokens x h
 tokens (Verbatim x) h = h
 tokens (Hidden x) h = tt
-tokens (Node k x) h = node_tokens k x (λ i. tokens x i) h
+tokens (Node k x) h = tokens x (inner k x h)
 tokens (Whole x) h = tokens x h
 tokens (Alone k y) h = tokens y h
 tokens (Front k y x) h = both (flat y) (flat x) (tokens y h.0) (tokens x h.1)
@@ -150,7 +133,7 @@ tokens (Infix l k y r) h =
 pub printed_visible : (x : Tree) → AllVisible (flat x) → AllVisible (flat (normal (kept x)))
 printed_visible x v =
     tokens (normal (kept x))
-    (every_normal false AnyTurn AnyTurn Printed AnyMark AllVisible AllVisible tt tt tt (λ c cs i h. h) refl of_apart
-    (λ p a b f h. f h) (λ a b f h. f h) Plain (kept x)
-    (every_kept false AnyTurn Printed AnyMark AllVisible AllVisible tt tt tt (λ c cs i h. h) (λ ts h. h) no_row x
-    (of_tokens x v)))
+    (every_normal false AnyTurn AnyTurn Printed AnyText AnyText AnyMark AllVisible AllVisible tt (λ c cs i h. h) refl
+    of_apart (λ p a b f h. f h) (λ a b f h. f h) Plain (kept x)
+    (every_kept false AnyTurn Printed AnyText AnyText AnyMark AllVisible AllVisible tt (λ cs. tt) tt tt (λ c cs i h. h)
+    (λ ts h. h) no_row x (of_tokens x v)))

@@ -1,6 +1,6 @@
 -- The tokens of a normal form are leaves, and its groups match.
 use Rattle.std.proofs.Common.{◌≡◌, ℕ, List, [], ◌∷◌, ◌++◌, codes, refl, sym, ap, ◌∙◌, append_assoc, subst, inl}
-use Rattle.std.specs.Prelude.{true, Some}
+use Rattle.std.specs.Prelude.{true, false, Some}
 use Rattle.std.specs.Fmt.{decimal}
 use Rattle.std.proofs.lemmas.List.{append-nil}
 use Rattle.unicode_ident.proofs.Computing.{unicode_ident}
@@ -23,11 +23,11 @@ use Rattle.syn_grammar.specs.Gram.{Gram, word, literal, mark, lifetime, raw, not
 use Rattle.syn_grammar.specs.Gram.{judged, dropped, called, ref, operand}
 use Rattle.syn_grammar.specs.Table.{table}
 use Rattle.syn_grammar.specs.Derives.{Derives, Bound}
-use Rattle.syn_grammar.specs.Kind.{Position, Plain}
+use Rattle.syn_grammar.specs.Kind.{Kind, Position, Plain}
 use Rattle.syn_grammar.specs.Forms.{inside}
 use Rattle.syn_grammar.specs.Kept.{kept}
 use Rattle.syn_grammar.specs.Normal.{apart, normal}
-use Rattle.laws_programs.proofs.Every.{Every, every_kept, every_normal}
+use Rattle.laws_items.proofs.Every.{Every, no_row, AnyDelimiter, AnyTurn, in_any, out_any, every_kept, every_normal}
 use Rattle.laws_programs.proofs.Stacks.{opened, IsMatching, matching_none, matching_both, matching_word}
 use Rattle.laws_programs.proofs.Stacks.{matching_literal, matching_mark, matching_marks, matching_group}
 use Rattle.laws_programs.proofs.Stacks.{matching_apart, matching_balanced}
@@ -39,12 +39,23 @@ abbrev AreMarks : ℕ → List ℕ → Type 0
 AreMarks c [] = is_mark c ≡ true
 AreMarks c (d ∷ ds) = (is_mark c ≡ true) × AreMarks d ds
 
+-- however they are spaced
+abbrev Marked : ℕ → List ℕ → Spacing → Type 0
+Marked c cs spacing = AreMarks c cs
+
 abbrev IsPart : List Token → Type 0
 IsPart ts = AreLeaves ts × IsMatching ts
 
 -- each word, literal and mark of a tree is a leaf, and of raw tokens the groups match
 abbrev pub Good : Tree → Type 0
-Good x = Every IsWord IsLiteralLeaf AreMarks IsPart x
+Good x = Every false AnyTurn AnyDelimiter IsWord IsLiteralLeaf Marked IsPart IsPart x
+
+-- a node is as good as what stands in it
+into : (k : Kind) (x : Tree) → Good x → Good (Node k x)
+into k x h = in_any false AnyTurn AnyDelimiter IsWord IsLiteralLeaf Marked IsPart IsPart no_row (λ ts i. i) k x h
+
+inner : (k : Kind) (x : Tree) → Good (Node k x) → Good x
+inner k x h = out_any false AnyTurn AnyDelimiter IsWord IsLiteralLeaf Marked IsPart IsPart no_row (λ ts i. i) k x h
 
 -- leaves one behind the other
 
@@ -94,12 +105,12 @@ leaves End h = tt
 leaves (Again x y) h = both (flat x) (flat y) (leaves x h.0) (leaves y h.1)
 leaves (Final x) h = leaves x h
 leaves (More x c spacing y) h = both (flat x) (Punct c spacing ∷ flat y) (leaves x h.0) (h.1, leaves y h.2)
-leaves (Group d x) h = (tt, both (flat x) (Closes d ∷ []) (leaves x h) (tt, tt))
+leaves (Group d x) h = (tt, both (flat x) (Closes d ∷ []) (leaves x h.1) (tt, tt))
 leaves (Dropped x) h = leaves x h
 leaves (Called n x) h = leaves x h
 leaves (Verbatim x) h = h.0
 leaves (Hidden x) h = tt
-leaves (Node k x) h = leaves x h
+leaves (Node k x) h = leaves x (inner k x h)
 leaves (Whole x) h = leaves x h
 leaves (Alone k y) h = leaves y h
 leaves (Front k y x) h = both (flat y) (flat x) (leaves y h.0) (leaves x h.1)
@@ -124,12 +135,12 @@ matching (Final x) h = matching x h
 matching (More x c spacing y) h =
     matching_both (flat x) (Punct c spacing ∷ flat y) (matching x h.0)
     (matching_both (Punct c spacing ∷ []) (flat y) (matching_mark c spacing) (matching y h.2))
-matching (Group d x) h = matching_group d (flat x) (matching x h)
+matching (Group d x) h = matching_group d (flat x) (matching x h.1)
 matching (Dropped x) h = matching x h
 matching (Called n x) h = matching x h
 matching (Verbatim x) h = h.1
 matching (Hidden x) h = matching_none
-matching (Node k x) h = matching x h
+matching (Node k x) h = matching x (inner k x h)
 matching (Whole x) h = matching x h
 matching (Alone k y) h = matching y h
 matching (Front k y x) h = matching_both (flat y) (flat x) (matching y h.0) (matching x h.1)
@@ -203,12 +214,12 @@ mutual
         v.leaves.0,
         good y (many e c g) r d.3 (within_back (Punct m spacing ∷ []) (flat y) (matching_mark m spacing) v),
       )
-  good (Group e x) (group f g) r d w = good x g [] d.1 (within_group e (flat x) w)
+  good (Group e x) (group f g) r d w = (tt, good x g [] d.1 (within_group e (flat x) w))
   good (First x) (judged v g) r d w = good x g r d.1 w
   good (Verbatim x) (judged v g) r d w = (w.leaves, matching x (good x g r d.1 w))
   good (Dropped x) (dropped g) r d w = good x g r d w
   good (Called n x) (called m g) r d w = good x g r d.1 w
-  good (Node k x) (ref l) r d w = good x (table k) r d.1 w
+  good (Node k x) (ref l) r d w = into k x (good x (table k) r d.1 w)
   good (Whole x) (operand p n) r d w = good_form x p r d.1 w
   good _ _ r d w = absurd d
 
@@ -256,5 +267,7 @@ part_apart ts h = (of_apart ts h.0, matching_apart ts h.1)
 -- the normal form of a good tree
 pub good_normal : (x : Tree) → Good x → Good (normal (kept x))
 good_normal x h =
-    every_normal IsWord IsLiteralLeaf AreMarks IsPart underscore index colon dot comma part_apart Plain (kept x)
-    (every_kept IsWord IsLiteralLeaf AreMarks IsPart underscore index colon dot comma part_apart x h)
+    every_normal false AnyTurn AnyTurn AnyDelimiter IsWord IsLiteralLeaf Marked IsPart IsPart comma (λ c cs i m. m) tt
+    part_apart (λ p a b f i. f i) (λ a b f i. f i) Plain (kept x)
+    (every_kept false AnyTurn AnyDelimiter IsWord IsLiteralLeaf Marked IsPart IsPart underscore index colon dot
+    (λ c cs i m. m) (λ ts i. i) no_row x h)

@@ -3,7 +3,6 @@ pub mod FileForests
 pub mod Shebangs
 pub mod Printed
 pub mod Programs
-pub mod Every
 pub mod Stacks
 pub mod Leaves
 pub mod Written
