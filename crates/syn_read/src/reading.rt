@@ -180,8 +180,7 @@ impl<'a> Reader<'a> {
 
     /// Reads the word that stands there, if it passes; `None`, and nothing is read, exactly where none does.
     pub fn optional_word(&mut self, words: Words) -> Option<&'a Ident>
-        ensures read { IfSome result (λ i. StandsWord (words_of words) (ident_text i.now) (left self.old)
-            (left self.new)) }
+        ensures read { IfSome result (λ i. StandsWord (words_of words) (ident_text i.now) (left self.old) (left self.new)) }
         ensures missing { IfNone result (NoWord (words_of words) (left self.old) × (self.new ≡ self.old)) }
         ensures placed { IfSome result (λ i. ident_span i.now ≡ standing self.old) }
         ensures onward { IsOnward self.old self.new }

@@ -2,8 +2,7 @@
 
 ghost use Rattle.reader_table.specs.Kinds.{kind_of};
 ghost use Rattle.reader_table.specs.Looks.{look_of};
-ghost use Rattle.std.specs.Prelude.{◌≡◌, ◌&&◌, IfErr, IfNone, IfOk, IfSome, IsErrAnd, IsFalse, IsTrue, MatchOption};
-ghost use Rattle.std.specs.Prelude.{OnErr};
+ghost use Rattle.std.specs.Prelude.{◌≡◌, ◌&&◌, IfErr, IfNone, IfOk, IfSome, IsErrAnd, IsFalse, IsTrue, MatchOption, OnErr};
 ghost use Rattle.std.specs.Prelude.{OnOk, false, true};
 ghost use Rattle.syn_read.specs.Streams.{IsPassed, invisible_words};
 ghost use Rattle.syn_error.specs.Faults.{IsSyntax};
