@@ -1,0 +1,5 @@
+pub mod LiteralTokens
+pub mod NothingStands
+pub mod RestAlone
+pub mod Singles
+pub mod TwoWords
