@@ -2,6 +2,8 @@
 //!
 //! - `exprs`: calls, elements, `?`, references, operators, parentheses, tuples and arrays.
 //! - `paths`: arguments of paths.
+//! - `segments`: paths and their segments.
+//! - `qualified`: qualified paths.
 //! - `types`: references, pointers, tuples, types in parentheses, `!` and `_`.
 //! - `lists`: what makes the elements of lists.
 #![tactic(auto)]
@@ -9,6 +11,8 @@
 pub mod exprs;
 pub mod lists;
 pub mod paths;
+pub mod qualified;
+pub mod segments;
 pub mod types;
 
 ghost use Rattle.node_from.specs.Whats.{IsWhat, made};
