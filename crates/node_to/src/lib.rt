@@ -5,14 +5,23 @@
 //!
 //! - `to_tree`: the trait that nodes have.
 //! - `leaf`: punctuations, words and lifetimes; `token`: literals, members and raw tokens.
-//! - `step`: forms of trees, each of its parts; `list`: elements with marks between them, and turns.
+//! - `step`: forms of trees, each of its parts; `row`: trees one behind the other, and groups.
+//! - `list`: elements with marks between them, and turns.
+//! - `sight`: what a tree is, where another is made by that.
+//! - `paths`: arguments of paths, and segments; `bounds`: lifetimes with their bounds.
+//! - `attributes`: attributes, and tokens in what encloses them.
 //! - `types`: slices, arrays, tuples, types in parentheses, `!`, `_`, references and pointers.
 //! - `operators`: the operators of expressions.
 #![tactic(auto)]
 
+pub mod attributes;
+pub mod bounds;
 pub mod leaf;
 pub mod list;
 pub mod operators;
+pub mod paths;
+pub mod row;
+pub mod sight;
 pub mod step;
 pub mod to_tree;
 pub mod token;

@@ -5,6 +5,7 @@ ghost use Rattle.node_words.specs.Words as words;
 ghost use Rattle.reader_table.specs.Ops.{separator_of};
 ghost use Rattle.std.specs.Prelude.{◌≡◌, IfOk, map};
 ghost use Rattle.syn_grammar.specs.Tree.{Tree as GivenTree};
+ghost use Rattle.syn_lists.specs.Lists.{values};
 
 use crate::to_tree::ToTree;
 use reader_table::op::Separator;
@@ -52,6 +53,16 @@ impl<T: ToTree> Way<T> for AsExpression {
 
     fn make<'a>(&self, arena: &'a Arena, value: &'a T) -> Result<Tree<'a>, AllocError> {
         crate::step::expression(arena, value.to_tree(arena))
+    }
+}
+
+/// Whether there are no values.
+pub fn is_empty<T, P>(list: &Punctuated<T, P>) -> bool
+    ensures { result ≡ words.is_empty (values list.now) }
+{
+    match list.as_slice() {
+        [] => true,
+        [_, ..] => false,
     }
 }
 
