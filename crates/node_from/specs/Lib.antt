@@ -1,3 +1,5 @@
 pub mod Whats
 pub mod Paths
 pub mod Exprs
+pub mod Attributes
+pub mod Names

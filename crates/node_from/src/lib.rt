@@ -4,12 +4,16 @@
 //! - `paths`: arguments of paths.
 //! - `segments`: paths and their segments.
 //! - `qualified`: qualified paths.
+//! - `attributes`: attributes.
+//! - `names`: names, and words in their place.
 //! - `types`: references, pointers, tuples, types in parentheses, `!` and `_`.
 //! - `lists`: what makes the elements of lists.
 #![tactic(auto)]
 
+pub mod attributes;
 pub mod exprs;
 pub mod lists;
+pub mod names;
 pub mod paths;
 pub mod qualified;
 pub mod segments;
