@@ -373,7 +373,7 @@ def entries():
     return found
 
 
-# The rules of kinds above whose entries the written grammar has no words.
+# The rules of kinds that are told otherwise beside their rows than above their entries, or have no words there.
 RULES = dict(line.split(' | ') for line in '''
 ImplType | impl bounds, of which one at least is a path.
 NeverType | !
@@ -443,7 +443,7 @@ ALet | let alternative (: Type)? (= Expr (else block)?)? ;
 
 def rule(kind, words_):
     """The rule of a kind in words: a word of the language at its beginning stays as it is."""
-    if not words_:
+    if kind in RULES:
         return RULES[kind].replace('\u2016', '|')
     first = re.match(r'\w*', words_)[0]
     return words_ if first in FIRST_WORDS else words_[:1].upper() + words_[1:]
