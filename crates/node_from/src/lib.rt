@@ -33,6 +33,18 @@ pub enum What {
     Literal,
     /// An expression that is a block, of its inside.
     Block,
+    /// An expression that is a path of one name, of that name.
+    Name,
+    /// What an attribute holds.
+    Meta,
+    /// An item.
+    Item,
+    /// A pattern that is one alternative.
+    OnePattern,
+    /// A pattern, which may have several alternatives.
+    Pattern,
+    /// The pattern `_`, of what stands where it is left out.
+    Wild,
 }
 
 /// What makes nodes of smaller trees.
