@@ -1,5 +1,6 @@
 -- Segments of paths, one behind the other.
 use Rattle.std.specs.Prelude.{◌≡◌, ◌<◌, ◌++◌, ◌||◌, ◌&&◌, ℕ, zero, suc, Bool, true, false, List, [], ◌∷◌, refl}
+use Rattle.std.specs.Prelude.{IfOk, Result, Ok, Err}
 use Rattle.std.specs.Prelude.{Option, Some, None, codes, cond, drop, length, nat_eq, take}
 use Rattle.std.proofs.Common.{◌∙◌, ap, append_assoc, arith, subst, sym}
 use Rattle.rust_leaf.specs.Leaf.{ident_text}
@@ -18,6 +19,7 @@ use Rattle.node_paths.specs.declared.path.PathArguments.TheVariants as arguments
 use Rattle.node_paths.specs.declared.path.PathSegment.{PathSegment}
 use Rattle.node_shapes.specs.Shape.{IsShaped}
 use Rattle.node_take.proofs.Seqs.{the_word}
+use Rattle.node_take.specs.Seqs.{among}
 use Rattle.node_words.specs.Words as words
 use Rattle.node_words.specs.Words.{◌▸◌, mark, name}
 use Rattle.node_views.specs.Paths.{behind_trait, inner, last_segment, mark_at, segment_then, segments}
@@ -206,3 +208,16 @@ pub some_segments : (n m : ℕ) → n ≡ suc m → nat_eq n 0 ≡ false
 some_segments n m e = ap (λ k. nat_eq k 0) e
 
 pub ruleset traits = (trait_front, trait_mark, trait_behind, some_segments)
+
+-- which of two alternatives was chosen
+
+pub first_of_two : (x : Tree) → among 1 0 x ≡ t.First x
+first_of_two x = refl
+
+pub second_of_two : (x : Tree) → among 1 1 x ≡ t.Second x
+second_of_two x = refl
+
+-- what follows of a value, of that of a result
+pub if_ok : {A B : Type 0} (r : Result A B) (P Q : Type 0) → (P → Q) → IfOk r (λ v. P) → IfOk r (λ v. Q)
+if_ok (Ok v) P Q f h = f h
+if_ok (Err v) P Q f h = h

@@ -1,5 +1,5 @@
 -- Attributes: those in front of what they belong to, and those inside it.
-use Rattle.std.specs.Prelude.{◌≡◌, ◌++◌, Bool, true, false, List, [], ◌∷◌, refl, codes, cond}
+use Rattle.std.specs.Prelude.{◌≡◌, ◌++◌, ◌&&◌, Bool, true, false, List, [], ◌∷◌, refl, codes, cond}
 use Rattle.std.proofs.Common.{◌∙◌, ap, subst, sym}
 use Rattle.proc_macro2.specs.Token.{Token}
 use Rattle.syn_grammar.specs.Gram.{ref, star}
@@ -12,11 +12,42 @@ use Rattle.syn_grammar.specs.Words.{is_path_keyword}
 use Rattle.node_paths.specs.declared.attribute.AttrStyle.{AttrStyle}
 use Rattle.node_paths.specs.declared.attribute.AttrStyle.TheVariants as styles
 use Rattle.node_paths.specs.declared.attribute.Attribute.{Attribute}
+use Rattle.node_paths.specs.declared.path.PathArguments.TheVariants as arguments
+use Rattle.node_paths.specs.declared.path.PathSegment.{PathSegment}
+use Rattle.rust_leaf.specs.Leaf.{ident_text}
+use Rattle.rust_leaf.specs.declared.ident.Ident.{Ident}
+use Rattle.syn_kinds.specs.declared.punctuation.Punctuation.{Punctuation}
 use Rattle.node_shapes.specs.Shape.{IsShaped}
 use Rattle.node_take.proofs.Seqs.{the_word}
-use Rattle.node_views.specs.Paths.{attribute, inner_of, is_outer, outer, styled}
-use Rattle.node_words.specs.Words.{turns}
+use Rattle.node_views.specs.Paths.{attribute, inner_of, is_outer, outer, segments, styled}
+use Rattle.node_words.specs.Words.{name, turns}
 use Rattle.node_from.specs.Attributes.{front, lone}
+
+-- a path of one word
+
+and_true : (b : Bool) → (b && true) ≡ b
+and_true true = refl
+and_true false = refl
+
+one_segment : {E : Type 0} (f : E → Tree) (i : Ident)
+    → t.Node (k.Path k.AtType) (t.Pair (t.Second t.Nil)
+    (segments {K = 28} {N = 2} f (record { ident = i; arguments = arguments.None } ∷ []) []))
+    ≡ lone (name i)
+one_segment f i =
+    ap (λ b. t.Node (k.Path k.AtType) (t.Pair (t.Second t.Nil) (t.Node (k.Segments k.AtType) (cond b
+    (t.First (t.Pair (name i) (t.Second t.Nil)))
+    (t.Second (t.Pair (name i) (t.Second (t.Second (t.Second t.Nil)))))))))
+    (and_true (is_path_keyword (ident_text i)))
+
+pub lone_segments : {E : Type 0} (f : E → Tree) (xs : List (PathSegment E)) (ps : List (Punctuation 28 2)) (i : Ident)
+    (y : Tree)
+    → xs ≡ record { ident = i; arguments = arguments.None } ∷ [] → ps ≡ [] → name i ≡ y
+    → t.Node (k.Path k.AtType) (t.Pair (t.Second t.Nil) (segments f xs ps)) ≡ lone y
+lone_segments f xs ps i y e d h =
+    ap (λ us. t.Node (k.Path k.AtType) (t.Pair (t.Second t.Nil) (segments f us ps))) e
+    ∙ ap (λ us. t.Node (k.Path k.AtType) (t.Pair (t.Second t.Nil) (segments {K = 28} {N = 2} f
+    (record { ident = i; arguments = arguments.None } ∷ []) us))) d
+    ∙ one_segment f i ∙ ap lone h
 
 -- unsafe alone
 

@@ -5,7 +5,7 @@ ghost use Rattle.node_views.specs.Paths as views;
 ghost use Rattle.node_words.specs.Words as words;
 ghost use Rattle.proc_macro2.specs.Token.{Token};
 ghost use Rattle.rust_leaf.specs.Leaf.{literal_text};
-ghost use Rattle.std.specs.Prelude.{◌≡◌, Bool, IfOk, List};
+ghost use Rattle.std.specs.Prelude.{◌≡◌, true, Bool, IfOk, List};
 ghost use Rattle.syn_grammar.specs.Gram as g;
 ghost use Rattle.syn_grammar.specs.Kept.{kept};
 ghost use Rattle.syn_grammar.specs.Kind as k;
@@ -21,7 +21,6 @@ use std::alloc::AllocError;
 use syn_leaf::lit::{Lit, LitStr};
 
 // The string that a literal is.
-#[tactic(auto, using(crate::proofs::Strings::no_other))]
 fn held_string(literal: Literal) -> LitStr
     requires { is_string (literal_text literal) ≡ true }
     ensures { literal_text result.token ≡ literal_text literal }
@@ -33,12 +32,12 @@ fn held_string(literal: Literal) -> LitStr
 }
 
 // A string.
-#[tactic(auto, using(crate::proofs::Strings::text_passes))]
 fn string(tree: &Tree<'_>) -> Result<LitStr, AllocError>
     requires { IsShaped tree.now (g.literal is_string) }
     ensures { IfOk result (λ l. t.ALiteral (literal_text l.token) ≡ kept tree.now) }
 {
-    Ok(held_string(take::literal(tree)?))
+    let literal = take::literal(tree)?;
+    Ok(held_string(literal))
 }
 
 /// A calling convention.

@@ -13,6 +13,7 @@ ghost use Rattle.syn_grammar.specs.Name as n;
 ghost use Rattle.syn_grammar.specs.Tree as t;
 ghost use Rattle.node_words.specs.Words as words;
 
+use crate::lists::list_of_one;
 use crate::macros::delimited;
 use crate::segments::path;
 use crate::{Reader, What, value};
@@ -23,26 +24,24 @@ use node_take::list::Make;
 use reader_table::kind::{Kind, Style};
 use reader_tree::tree::Tree;
 use std::alloc::{AllocError, Global};
-use syn_lists::Punctuated;
 
 /// A path of one word.
 ///
 /// # Errors
 ///
 /// Where there is no memory for it.
+#[tactic(auto, using(crate::proofs::Styles::lone_segments))]
 pub fn lone_path<E: Drop, R: Reader<E>>(below: &R, tree: &Tree<'_>) -> Result<Path<E>, AllocError>
     requires { ((p : List ℕ → Bool) × IsShaped tree.now (g.word p)) }
     ensures { IfOk result (λ x. views.path R.view x ≡ lone (kept tree.now)) }
 {
-    let ident = take::ident(tree)?;
-    let mut segments = Punctuated::new(below.alloc());
-    segments.push_value(PathSegment {
-        ident,
+    let segment = PathSegment {
+        ident: take::ident(tree)?,
         arguments: PathArguments::None,
-    })?;
+    };
     Ok(Path {
         leading_colon: None,
-        segments,
+        segments: list_of_one(below.alloc(), segment)?,
     })
 }
 
@@ -226,7 +225,7 @@ pub fn outer_attributes<E: Drop, R: Reader<E>>(
     ensures none_inside { IfOk result (λ v. views.inner_of v.items ≡ []) }
 {
     let inner = take::node(Kind::OuterAttributes, tree);
-    take::each(&Outer { below }, inner)
+    Ok(take::each(&Outer { below }, inner)?)
 }
 
 /// Puts the attributes inside of what has those in front of it already behind these.
@@ -248,5 +247,6 @@ pub fn push_inner_attributes<E: Drop, R: Reader<E>>(
     ensures inner { IfOk result (λ _. views.inner_attributes R.view attrs.new.items ≡ kept tree.now) }
 {
     let mut inside = take::each(&Inner { below }, take::node(Kind::InnerAttributes, tree))?;
-    attrs.append(&mut inside)
+    attrs.append(&mut inside)?;
+    Ok(())
 }

@@ -66,7 +66,7 @@ pub fn lifetimes(
     ensures { IfOk result (λ l. views.lifetimes l ≡ kept tree.now) }
 {
     let list = take::node(Kind::Lifetimes, tree);
-    take::separated(&LifetimeList { alloc, list }, '+', list)
+    Ok(take::separated(&LifetimeList { alloc, list }, '+', list)?)
 }
 
 // The bounds of a lifetime, with the `:` before them.
@@ -292,7 +292,8 @@ pub fn bound_list<E: Drop, R: Reader<E>>(
     requires fewer { node_count tree.now ≤ R.bound below.now }
     ensures { IfOk result (λ l. views.bound_list R.view l ≡ kept tree.now) }
 {
-    take::separated(&Bounds { below }, '+', take::node(Kind::Bounds, tree))
+    let inner = take::node(Kind::Bounds, tree);
+    Ok(take::separated(&Bounds { below }, '+', inner)?)
 }
 
 /// Bounds with `+` between them, of which one at least is a trait.
@@ -311,7 +312,7 @@ pub fn some_bounds<E: Drop, R: Reader<E>>(
     ensures { IfOk result (λ l. views.some_bounds R.view l ≡ kept tree.now) }
 {
     let inner = take::kept(take::node(Kind::SomeBounds, tree));
-    take::separated(&Bounds { below }, '+', inner)
+    Ok(take::separated(&Bounds { below }, '+', inner)?)
 }
 
 /// The bounds behind a `:`, with that, if it stands there.

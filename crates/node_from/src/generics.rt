@@ -1,8 +1,7 @@
 //! Parameters of items, and the conditions on them.
 
-ghost use Rattle.node_from.specs.Generics.{
-    conditions, const_value, optional_const, optional_type, predicate_lifetime, predicate_type, where_part,
-};
+ghost use Rattle.node_from.specs.Generics.{conditions, const_value as const_gram, optional_const, optional_type};
+ghost use Rattle.node_from.specs.Generics.{predicate_lifetime, predicate_type, where_part};
 ghost use Rattle.node_shapes.specs.Shape.{IsShaped};
 ghost use Rattle.node_views.specs.Generics as views;
 ghost use Rattle.node_words.specs.Words as words;
@@ -85,15 +84,15 @@ pub fn type_param<E: Drop, R: Reader<E>>(
 #[tactic(auto, unfolding(syn_grammar::specs::Table::table, syn_grammar::specs::Kept::held, syn_kinds::specs::Table::marks, syn_kinds::specs::Table::sign, syn_kinds::specs::Table::word))]
 fn const_value<E: Drop, R: Reader<E>>(below: &R, tree: &Tree<'_>) -> Result<E, AllocError>
     requires ready { R.ready below.now }
-    requires shaped { IsShaped tree.now const_value }
+    requires shaped { IsShaped tree.now const_gram }
     requires fewer { node_count tree.now < R.bound below.now }
     ensures { IfOk result (λ x. words.expression (R.view x) ≡ constant_default (kept tree.now)) }
 {
     let (which, own) = take::alternative(2, tree);
     match which {
-        0 => below.node(What::Literal, own),
-        1 => below.node(What::Block, own),
-        _ => below.node(What::Name, own),
+        0 => Ok(below.node(What::Literal, own)?),
+        1 => Ok(below.node(What::Block, own)?),
+        _ => Ok(below.node(What::Name, own)?),
     }
 }
 
@@ -213,7 +212,7 @@ fn angled_params<E: Drop, R: Reader<E>>(
         × IsShaped tree.now (g.alt test grammar.angled_params g.nothing)) }
     requires fewer { node_count tree.now ≤ R.bound below.now }
     ensures params { IfOk result (λ x. views.angled_params R.view x ≡ kept tree.now) }
-    ensures conditions { IfOk result (λ x. x.where_clause ≡ where_clause) }
+    ensures clause { IfOk result (λ x. x.where_clause ≡ where_clause) }
 {
     match take::optional(tree) {
         Some(angled) => {
@@ -250,7 +249,7 @@ pub fn generics<E: Drop, R: Reader<E>>(
     requires shaped { IsShaped tree.now (g.ref k.Generics) }
     requires fewer { node_count tree.now ≤ R.bound below.now }
     ensures params { IfOk result (λ x. views.generics R.view x ≡ kept tree.now) }
-    ensures conditions { IfOk result (λ x. x.where_clause ≡ where_clause) }
+    ensures clause { IfOk result (λ x. x.where_clause ≡ where_clause) }
 {
     angled_params(below, take::node(Kind::Generics, tree), where_clause)
 }
@@ -270,7 +269,7 @@ pub fn impl_generics<E: Drop, R: Reader<E>>(
     requires shaped { IsShaped tree.now (g.ref k.ImplGenerics) }
     requires fewer { node_count tree.now ≤ R.bound below.now }
     ensures params { IfOk result (λ x. views.impl_generics R.view x ≡ kept tree.now) }
-    ensures conditions { IfOk result (λ x. x.where_clause ≡ where_clause) }
+    ensures clause { IfOk result (λ x. x.where_clause ≡ where_clause) }
 {
     angled_params(below, take::node(Kind::ImplGenerics, tree), where_clause)
 }

@@ -4,6 +4,8 @@ ghost use Rattle.syn_grammar.specs.Gram.{ref};
 ghost use Rattle.syn_grammar.specs.Kind as k;
 ghost use Rattle.node_views.specs.Paths as paths;
 ghost use Rattle.node_words.specs.Words.{expression};
+ghost use Rattle.std.specs.Prelude.{◌≡◌, [], ◌∷◌, IfOk};
+ghost use Rattle.syn_lists.specs.Lists.{separators, values};
 
 use crate::paths::generic_argument;
 use crate::{Reader, What};
@@ -13,6 +15,24 @@ use node_take::list::Make;
 use reader_table::kind::{Kind, Position};
 use reader_tree::tree::Tree;
 use std::alloc::{AllocError, Global};
+use syn_lists::Punctuated;
+
+/// A list of one value.
+///
+/// # Errors
+///
+/// Where there is no memory for it.
+pub fn list_of_one<T: Drop, P: Drop>(
+    alloc: Global,
+    value: T,
+) -> Result<Punctuated<T, P>, AllocError>
+    ensures values { IfOk result (λ l. values l ≡ value ∷ []) }
+    ensures separators { IfOk result (λ l. separators l ≡ []) }
+{
+    let mut list = Punctuated::new(alloc);
+    list.push_value(value)?;
+    Ok(list)
+}
 
 /// Makes types, which may hold bounds with a `+` between them.
 #[derive(Clone, Copy)]

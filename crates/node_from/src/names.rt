@@ -1,6 +1,6 @@
 //! Names that a word may stand for.
 
-ghost use Rattle.node_from.specs.Names.{chosen, name_or};
+ghost use Rattle.node_from.specs.Names.{chosen};
 ghost use Rattle.std.specs.Prelude.{◌≡◌, Bool, IfOk, List, ℕ};
 ghost use Rattle.node_shapes.specs.Shape.{IsShaped};
 ghost use Rattle.node_words.specs.Words as words;

@@ -18,7 +18,7 @@ ghost use Rattle.syn_grammar.specs.Tree as t;
 use crate::bounds::{some_bounds, type_param_bound};
 use crate::exprs::expression;
 use crate::fn_pointers::type_fn_ptr;
-use crate::lists::Types;
+use crate::lists::{Types, list_of_one};
 use crate::qualified::any_path;
 use crate::{Reader, What, child};
 use node_paths::bound::TypeParamBound;
@@ -195,7 +195,7 @@ pub fn type_bracket<E: Drop, R: Reader<E>>(
 }
 
 // The one bound of a type that may hold no `+`.
-#[tactic(auto, using(node_take::proofs::Takes::shaped_never), unfolding(syn_grammar::specs::Table::table, syn_grammar::specs::Kept::held, syn_kinds::specs::Table::marks, syn_kinds::specs::Table::sign, syn_kinds::specs::Table::word))]
+#[tactic(auto, using(node_take::proofs::Takes::shaped_never, crate::proofs::Bounded::lone_listed), unfolding(syn_grammar::specs::Table::table, syn_grammar::specs::Kept::held, syn_kinds::specs::Table::marks, syn_kinds::specs::Table::sign, syn_kinds::specs::Table::word))]
 fn lone_bound<E: Drop, R: Reader<E>>(
     below: &R,
     tree: &Tree<'_>,
@@ -208,9 +208,8 @@ fn lone_bound<E: Drop, R: Reader<E>>(
     match take::alternative(1, tree) {
         (0, _) => unreachable!(),
         (_, bound) => {
-            let mut bounds = Punctuated::new(below.alloc());
-            bounds.push_value(type_param_bound(below, bound)?)?;
-            Ok(bounds)
+            let bound = type_param_bound(below, bound)?;
+            Ok(list_of_one(below.alloc(), bound)?)
         }
     }
 }
@@ -228,8 +227,8 @@ fn bounds_behind<E: Drop, R: Reader<E>>(
     ensures { IfOk result (λ l. n.the_bounds ∶ some_bounds_view R.view l ≡ as_list (kept tree.now)) }
 {
     match plus {
-        Plus::WithPlus => some_bounds(below, take::called(tree)),
-        Plus::WithoutPlus => lone_bound(below, tree),
+        Plus::WithPlus => Ok(some_bounds(below, take::called(tree))?),
+        Plus::WithoutPlus => Ok(lone_bound(below, tree)?),
     }
 }
 
@@ -297,11 +296,11 @@ pub fn type_<E: Drop, R: Reader<E>>(
 {
     let (which, own) = take::alternative(9, take::node(Kind::AType(plus), tree));
     match which {
-        0 => type_tuple(below, own),
+        0 => Ok(type_tuple(below, own)?),
         1 => Ok(Type::Never(type_never(own))),
         2 => Ok(Type::Reference(type_reference(below, own)?)),
         3 => Ok(Type::Ptr(type_ptr(below, own)?)),
-        4 => type_bracket(below, own),
+        4 => Ok(type_bracket(below, own)?),
         5 => Ok(Type::Infer(type_infer(own))),
         6 => Ok(Type::TraitObject(type_trait_object(below, plus, own)?)),
         7 => Ok(Type::ImplTrait(type_impl_trait(below, plus, own)?)),
