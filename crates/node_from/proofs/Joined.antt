@@ -3,6 +3,7 @@ use Rattle.std.specs.Prelude.{◌≡◌, ◌<◌, ◌++◌, ◌||◌, ◌&&◌, 
 use Rattle.std.specs.Prelude.{IfOk, Result, Ok, Err}
 use Rattle.std.specs.Prelude.{Option, Some, None, codes, cond, drop, length, nat_eq, take}
 use Rattle.std.proofs.Common.{◌∙◌, ap, append_assoc, arith, subst, sym}
+use Rattle.std.proofs.lemmas.Bool.{eqb-true}
 use Rattle.rust_leaf.specs.Leaf.{ident_text}
 use Rattle.rust_leaf.specs.declared.ident.Ident.{Ident}
 use Rattle.syn_grammar.specs.Gram.{word}
@@ -22,7 +23,8 @@ use Rattle.node_take.proofs.Seqs.{the_word}
 use Rattle.node_take.specs.Seqs.{among}
 use Rattle.node_words.specs.Words as words
 use Rattle.node_words.specs.Words.{◌▸◌, mark, name}
-use Rattle.node_views.specs.Paths.{behind_trait, inner, last_segment, mark_at, segment_then, segments}
+use Rattle.node_views.specs.Paths.{behind_trait, inner, last_segment, mark_at, path_segment, segment_end, segment_then}
+use Rattle.node_views.specs.Paths.{segments}
 use Rattle.node_from.specs.declared.segments.More.{More}
 use Rattle.node_from.specs.Paths.{AreAdded, front_of, more, parted, segments_behind, segments_of, then_more}
 
@@ -71,6 +73,15 @@ pub named_parted : {E : Type 0} (f : E → Tree) (i : Ident) (a : PathArguments 
 named_parted f i a None w b h e q =
     rw (no_keyword (ident_text i) (word_passes w (ident_text i) is_plain_name h e)) (cc)
 named_parted f i a (Some m) w b h e q =
+    rw (no_keyword (ident_text i) (word_passes w (ident_text i) is_plain_name h e)) (cc)
+
+-- the same of a segment by itself
+
+pub alone_named : {E : Type 0} (f : E → Tree) (i : Ident) (a : PathArguments E) (w b : Tree)
+    → IsShaped w (word is_plain_name) → name i ≡ kept w → segment_end f a ≡ kept b
+    → path_segment f (record { ident = i; arguments = a })
+    ≡ t.Node (k.Segment k.AtType) (t.Second (t.Pair (kept w) (kept b)))
+alone_named f i a w b h e q =
     rw (no_keyword (ident_text i) (word_passes w (ident_text i) is_plain_name h e)) (cc)
 
 pub ruleset parts = (keyword_parted, named_parted)
@@ -205,7 +216,8 @@ trait_behind f xs ps m ps' ys qs z d e a =
     ∙ ap (λ us. segments f a.0 us) (marks_behind xs ps m a.1 e) ∙ a.5
 
 pub some_segments : (n m : ℕ) → n ≡ suc m → nat_eq n 0 ≡ false
-some_segments n m e = ap (λ k. nat_eq k 0) e
+some_segments n m e =
+    never_true (nat_eq n 0) (λ (q : nat_eq n 0 ≡ true). absurd (omega (arith, eqb-true n 0 q, e)))
 
 pub ruleset traits = (trait_front, trait_mark, trait_behind, some_segments)
 

@@ -20,7 +20,7 @@ use Rattle.syn_kinds.specs.declared.punctuation.Punctuation.{Punctuation}
 use Rattle.node_shapes.specs.Shape.{IsShaped}
 use Rattle.node_take.proofs.Seqs.{the_word}
 use Rattle.node_views.specs.Paths.{attribute, inner_of, is_outer, outer, segments, styled}
-use Rattle.node_words.specs.Words.{name, turns}
+use Rattle.node_words.specs.Words.{enclosed, mark, name, turns}
 use Rattle.node_from.specs.Attributes.{front, lone}
 
 -- a path of one word
@@ -86,7 +86,7 @@ pub outer_all : {E : Type 0} (f : E → Tree) (xs : List (Attribute E)) (y : Tre
     → IsShaped y (star test (ref k.OuterAttribute)) → turns (attribute f) xs ≡ kept y → outer xs ≡ xs
 outer_all f [] y test h e = refl
 outer_all f (x ∷ xs) (t.Again a b) test h e =
-    let s : is_outer x.style ≡ true = outer_style x.style _ _ a (cc) h.0 in
+    let s : is_outer x.style ≡ true = outer_style x.style (mark x.pound_token) (enclosed x.bracket_token (f x.meta)) a (cc) h.0 in
     let r : outer xs ≡ xs = outer_all f xs b test h.1 (cc) in
     ap (λ c. cond c (x ∷ outer xs) (outer xs)) s ∙ ap (λ ys. x ∷ ys) r
 outer_all f (x ∷ xs) t.End test h e = cc
@@ -96,7 +96,7 @@ pub none_inside : {E : Type 0} (f : E → Tree) (xs : List (Attribute E)) (y : T
     → IsShaped y (star test (ref k.OuterAttribute)) → turns (attribute f) xs ≡ kept y → inner_of xs ≡ []
 none_inside f [] y test h e = refl
 none_inside f (x ∷ xs) (t.Again a b) test h e =
-    let s : is_outer x.style ≡ true = outer_style x.style _ _ a (cc) h.0 in
+    let s : is_outer x.style ≡ true = outer_style x.style (mark x.pound_token) (enclosed x.bracket_token (f x.meta)) a (cc) h.0 in
     let r : inner_of xs ≡ [] = none_inside f xs b test h.1 (cc) in
     ap (λ c. cond c (inner_of xs) (x ∷ inner_of xs)) s ∙ r
 none_inside f (x ∷ xs) t.End test h e = cc
@@ -108,7 +108,7 @@ inner_all : {E : Type 0} (f : E → Tree) (xs : List (Attribute E)) (y : Tree) (
     → IsShaped y (star test (ref k.InnerAttribute)) → turns (attribute f) xs ≡ kept y → inner_of xs ≡ xs
 inner_all f [] y test h e = refl
 inner_all f (x ∷ xs) (t.Again a b) test h e =
-    let s : is_outer x.style ≡ false = inner_style x.style _ _ a (cc) h.0 in
+    let s : is_outer x.style ≡ false = inner_style x.style (mark x.pound_token) (enclosed x.bracket_token (f x.meta)) a (cc) h.0 in
     let r : inner_of xs ≡ xs = inner_all f xs b test h.1 (cc) in
     ap (λ c. cond c (inner_of xs) (x ∷ inner_of xs)) s ∙ ap (λ ys. x ∷ ys) r
 inner_all f (x ∷ xs) t.End test h e = cc
@@ -118,7 +118,7 @@ none_outside : {E : Type 0} (f : E → Tree) (xs : List (Attribute E)) (y : Tree
     → IsShaped y (star test (ref k.InnerAttribute)) → turns (attribute f) xs ≡ kept y → outer xs ≡ []
 none_outside f [] y test h e = refl
 none_outside f (x ∷ xs) (t.Again a b) test h e =
-    let s : is_outer x.style ≡ false = inner_style x.style _ _ a (cc) h.0 in
+    let s : is_outer x.style ≡ false = inner_style x.style (mark x.pound_token) (enclosed x.bracket_token (f x.meta)) a (cc) h.0 in
     let r : outer xs ≡ [] = none_outside f xs b test h.1 (cc) in
     ap (λ c. cond c (x ∷ outer xs) (outer xs)) s ∙ r
 none_outside f (x ∷ xs) t.End test h e = cc

@@ -212,7 +212,7 @@ impl<'r, E: Drop, R: Reader<E>> Make<Attribute<E>> for Inner<'r, R> {
 /// # Errors
 ///
 /// Where there is no memory for them.
-#[tactic(auto, using(crate::proofs::Styles::outers), unfolding(syn_grammar::specs::Table::table, syn_grammar::specs::Kept::held))]
+#[tactic(auto, unfolding(syn_grammar::specs::Table::table, syn_grammar::specs::Kept::held))]
 pub fn outer_attributes<E: Drop, R: Reader<E>>(
     below: &R,
     tree: &Tree<'_>,
@@ -233,7 +233,7 @@ pub fn outer_attributes<E: Drop, R: Reader<E>>(
 /// # Errors
 ///
 /// Where there is no memory for them.
-#[tactic(auto, using(crate::proofs::Styles::inners), unfolding(syn_grammar::specs::Table::table, syn_grammar::specs::Kept::held))]
+#[tactic(auto, unfolding(syn_grammar::specs::Table::table, syn_grammar::specs::Kept::held))]
 pub fn push_inner_attributes<E: Drop, R: Reader<E>>(
     below: &R,
     tree: &Tree<'_>,

@@ -1,6 +1,7 @@
 //! Segments of paths.
 
-ghost use Rattle.node_from.specs.Paths.{AreAdded, IsBehind, behind_name, last_behind_name, more, parted, segments_of, then_more};
+ghost use Rattle.node_from.specs.Paths.{AreAdded, IsBehind, behind_name, last_behind_name, more, parted};
+ghost use Rattle.node_from.specs.Paths.{segments_of, then_more};
 ghost use Rattle.node_shapes.specs.Shape.{IsShaped};
 ghost use Rattle.node_views.specs.Paths as views;
 ghost use Rattle.node_words.specs.Words as words;
@@ -137,9 +138,9 @@ pub(crate) fn push_segments<E: Drop, R: Reader<E>>(
     let (segment, more) = segment(below, style, tree)?;
     list.push_value(segment)?;
     match more {
-        Some(More { mark, segments }) => {
-            list.push_punct(mark)?;
-            push_segments(below, style, segments, list)
+        Some(next) => {
+            list.push_punct(next.mark)?;
+            push_segments(below, style, next.segments, list)
         }
         None => Ok(()),
     }
