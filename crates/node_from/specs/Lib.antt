@@ -1,5 +1,9 @@
 pub mod Whats
 pub mod Paths
-pub mod Exprs
 pub mod Attributes
+pub mod Bounds
+pub mod Generics
+pub mod Exprs
 pub mod Names
+pub mod Types
+pub mod FnPointers

@@ -1,6 +1,6 @@
-//! Attributes.
+//! Attributes, and what they hold.
 
-ghost use Rattle.node_from.specs.Attributes.{lone};
+ghost use Rattle.node_from.specs.Attributes.{behind_equals, front, lone, meta_front};
 ghost use Rattle.node_shapes.specs.Shape.{IsShaped};
 ghost use Rattle.node_views.specs.Data.{all_attributes};
 ghost use Rattle.node_views.specs.Paths as views;
@@ -9,14 +9,19 @@ ghost use Rattle.std.specs.Prelude.{◌≡◌, ◌≤◌, [], Bool, IfOk, List, 
 ghost use Rattle.syn_grammar.specs.Gram as g;
 ghost use Rattle.syn_grammar.specs.Kept.{kept};
 ghost use Rattle.syn_grammar.specs.Kind as k;
+ghost use Rattle.syn_grammar.specs.Name as n;
+ghost use Rattle.syn_grammar.specs.Tree as t;
+ghost use Rattle.node_words.specs.Words as words;
 
 use crate::lists::list_of_one;
-use crate::{Reader, What};
-use node_paths::attribute::{AttrStyle, Attribute};
+use crate::macros::delimited;
+use crate::segments::path;
+use crate::{Reader, What, value};
+use node_paths::attribute::{AttrStyle, Attribute, Meta, MetaList, MetaNameValue};
 use node_paths::path::{Path, PathArguments, PathSegment};
 use node_take as take;
 use node_take::list::Make;
-use reader_table::kind::Kind;
+use reader_table::kind::{Kind, Style};
 use reader_tree::tree::Tree;
 use std::alloc::{AllocError, Global};
 
@@ -38,6 +43,70 @@ pub fn lone_path<E: Drop, R: Reader<E>>(below: &R, tree: &Tree<'_>) -> Result<Pa
         leading_colon: None,
         segments: list_of_one(below.alloc(), segment)?,
     })
+}
+
+// The path that an attribute begins with: `unsafe` is one, too.
+#[tactic(auto, using(crate::proofs::Styles::unsafe_word), unfolding(syn_grammar::specs::Table::table, syn_grammar::specs::Kept::held, syn_kinds::specs::Table::marks, syn_kinds::specs::Table::sign, syn_kinds::specs::Table::word))]
+fn meta_path<E: Drop, R: Reader<E>>(below: &R, tree: &Tree<'_>) -> Result<Path<E>, AllocError>
+    requires ready { R.ready below.now }
+    requires shaped { IsShaped tree.now meta_front }
+    requires fewer { node_count tree.now ≤ R.bound below.now }
+    ensures { IfOk result (λ x. t.Second (views.path R.view x) ≡ front (kept tree.now)) }
+{
+    match take::alternative(1, tree) {
+        (0, word) => lone_path(below, word),
+        (_, own) => path(below, Style::InModule, own),
+    }
+}
+
+// The value behind the `=` of an attribute.
+#[tactic(auto, using(node_take::proofs::Takes::shaped_never), unfolding(syn_grammar::specs::Table::table, syn_grammar::specs::Kept::held, syn_kinds::specs::Table::marks, syn_kinds::specs::Table::sign, syn_kinds::specs::Table::word))]
+fn meta_value<E: Drop, R: Reader<E>>(below: &R, tree: &Tree<'_>) -> Result<E, AllocError>
+    requires ready { R.ready below.now }
+    requires shaped { IsShaped tree.now behind_equals }
+    requires fewer { node_count tree.now ≤ R.bound below.now }
+    ensures { IfOk result (λ x. t.Second (t.Called n.the_value (words.expression (R.view x))) ≡ kept tree.now) }
+{
+    match take::alternative(1, tree) {
+        (0, _) => unreachable!(),
+        (_, own) => value(below, take::called(own)),
+    }
+}
+
+/// What an attribute holds.
+///
+/// # Errors
+///
+/// Where there is no memory for it.
+#[tactic(auto, using(crate::proofs::Styles::unsafe_front), unfolding(syn_grammar::specs::Table::table, syn_grammar::specs::Kept::held, syn_kinds::specs::Table::marks, syn_kinds::specs::Table::sign, syn_kinds::specs::Table::word))]
+pub fn meta<E: Drop, R: Reader<E>>(below: &R, tree: &Tree<'_>) -> Result<Meta<E>, AllocError>
+    requires ready { R.ready below.now }
+    requires shaped { IsShaped tree.now (g.ref k.Meta) }
+    requires fewer { node_count tree.now ≤ R.bound below.now }
+    ensures { IfOk result (λ x. views.meta R.view x ≡ kept tree.now) }
+{
+    let (front, behind) = take::pair(take::node(Kind::Meta, tree));
+    let path = meta_path(below, front)?;
+    let (which, own) = take::alternative(2, behind);
+    match which {
+        0 => {
+            let (delimiter, tokens) = delimited(below.alloc(), own)?;
+            Ok(Meta::List(MetaList {
+                path,
+                delimiter,
+                tokens,
+            }))
+        }
+        1 => {
+            let (eq_token, behind) = take::pair(own);
+            Ok(Meta::NameValue(MetaNameValue {
+                path,
+                eq_token: take::sign(eq_token),
+                value: meta_value(below, behind)?,
+            }))
+        }
+        _ => Ok(Meta::Path(path)),
+    }
 }
 
 /// An attribute in front of what it belongs to.

@@ -1,30 +1,48 @@
-//! Nodes of trees that were read: some types, arguments of paths, and some expressions.
+//! Nodes of trees that were read: types, paths, attributes, bounds, generics, and some expressions.
 //!
 //! - `exprs`: calls, elements, `?`, references, operators, parentheses, tuples and arrays.
 //! - `paths`: arguments of paths.
 //! - `segments`: paths and their segments.
 //! - `qualified`: qualified paths.
-//! - `attributes`: attributes.
+//! - `macros`: calls of macros.
+//! - `attributes`: attributes, and what they hold.
+//! - `bounds`: bounds, and the lifetimes that they bind.
+//! - `abi`: calling conventions.
+//! - `generics`: parameters of items, and the conditions on them.
 //! - `names`: names, and words in their place.
-//! - `types`: references, pointers, tuples, types in parentheses, `!` and `_`.
+//! - `types`: types.
+//! - `visibility`: who may name an item.
+//! - `fn_pointers`: function pointers, and what functions return.
 //! - `lists`: what makes the elements of lists.
 #![tactic(auto)]
 
+pub mod abi;
 pub mod attributes;
+pub mod bounds;
 pub mod exprs;
+pub mod fn_pointers;
+pub mod generics;
 pub mod lists;
+pub mod macros;
 pub mod names;
 pub mod paths;
 pub mod qualified;
 pub mod segments;
 pub mod types;
+pub mod visibility;
 
 ghost use Rattle.node_from.specs.Whats.{IsWhat, made};
+ghost use Rattle.node_shapes.specs.Shape.{IsShaped};
+ghost use Rattle.node_words.specs.Words.{expression};
 ghost use Rattle.reader_tree.specs.Size.{node_count};
-ghost use Rattle.std.specs.Prelude.{◌≡◌, ◌<◌, IfOk, ℕ};
+ghost use Rattle.std.specs.Prelude.{◌≡◌, ◌<◌, ◌≤◌, IfOk, ℕ};
+ghost use Rattle.syn_grammar.specs.Gram as g;
 ghost use Rattle.syn_grammar.specs.Kept.{kept};
+ghost use Rattle.syn_grammar.specs.Kind as k;
 ghost use Rattle.syn_grammar.specs.Tree.{Tree as GivenTree};
 
+use node_take as take;
+use reader_table::kind::{Kind, Position};
 use reader_tree::tree::Tree;
 use std::alloc::{AllocError, Global};
 
@@ -98,4 +116,20 @@ pub fn child<E: Drop, R: Reader<E>>(
 {
     let node = below.node(what, tree)?;
     Ok(Box::new(below.alloc(), node)?)
+}
+
+/// An expression by itself, of its form.
+///
+/// # Errors
+///
+/// Where there is no memory for it.
+#[tactic(auto, unfolding(syn_grammar::specs::Table::table, syn_grammar::specs::Kept::held))]
+pub fn value<E: Drop, R: Reader<E>>(below: &R, tree: &Tree<'_>) -> Result<E, AllocError>
+    requires ready { R.ready below.now }
+    requires shaped { IsShaped tree.now (g.ref (k.Expression k.Plain)) }
+    requires fewer { node_count tree.now ≤ R.bound below.now }
+    ensures { IfOk result (λ x. expression (R.view x) ≡ kept tree.now) }
+{
+    let form = take::whole(take::node(Kind::Expression(Position::Plain), tree));
+    below.node(What::Form, form)
 }

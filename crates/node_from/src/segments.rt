@@ -109,10 +109,7 @@ fn segment<'t, 'a, E: Drop, R: Reader<E>>(
             let (word, behind) = take::pair(own);
             let ident = take::ident(word)?;
             let arguments = PathArguments::None;
-            Ok((
-                PathSegment { ident, arguments },
-                more_segments(style, behind),
-            ))
+            Ok((PathSegment { ident, arguments }, more_segments(style, behind)))
         }
         (_, own) => {
             let (name, behind) = take::pair(own);

@@ -14,7 +14,7 @@ returns-clause-outer g c =
     let ys = c.in_ok-inside.inside.items in
     let zs = c.append.new.self.items in
     let d : zs ≡ xs ++ ys =
-    subst (λ r. zs ≡ (if is_ok r then xs ++ ys else xs)) c.in_ok-append.was c.append.ensures.items in
+        subst (λ r. zs ≡ (if is_ok r then xs ++ ys else xs)) c.in_ok-append.was c.append.ensures.items in
     pushed_outer g.R.Reader.view xs ys zs c.node.result.now _ d c.node.ensures.shaped c.in_ok-inside.ensures
 
 pub returns-clause-inner : goal.returns-clause-inner
@@ -24,7 +24,7 @@ returns-clause-inner g c =
     let ys = c.in_ok-inside.inside.items in
     let zs = c.append.new.self.items in
     let d : zs ≡ xs ++ ys =
-    subst (λ r. zs ≡ (if is_ok r then xs ++ ys else xs)) c.in_ok-append.was c.append.ensures.items in
+        subst (λ r. zs ≡ (if is_ok r then xs ++ ys else xs)) c.in_ok-append.was c.append.ensures.items in
     ap (t.Node k.InnerAttributes) (pushed_inner g.R.Reader.view xs ys zs c.node.result.now _ d c.requires.none_inside
     c.node.ensures.shaped c.in_ok-inside.ensures)
     ∙ sym (ap kept c.node.ensures.node)

@@ -22,13 +22,13 @@ returns-clause-behind g c =
     let n = c.len-position.result in
     let d : ps' ≡ ps ++ m ∷ [] = c.in_ok-push_punct.ensures.ok in
     let e : length xs ≡ suc (length ps) =
-    ap length c.push_punct.ensures.values ∙ c.in_ok-leading_colon.ensures.separated in
+        ap length c.push_punct.ensures.values ∙ c.in_ok-leading_colon.ensures.separated in
     let k : n ≡ length xs = c.len-position.ensures ∙ sym (ap length c.push_punct.ensures.values) in
     let u : behind_trait n o qs ≡ kept c.args.mark.now =
-    ap (λ j. behind_trait j o qs) k
-    ∙ trait_mark f xs ps m ps' ys qs o z d e c.in_ok-push_segments.ensures ∙ c.sign.ensures in
+        ap (λ j. behind_trait j o qs) k
+        ∙ trait_mark f xs ps m ps' ys qs o z d e c.in_ok-push_segments.ensures ∙ c.sign.ensures in
     let v : segments f (drop n ys) (drop n qs) ≡ kept c.args.behind.now =
-    ap (λ j. segments f (drop j ys) (drop j qs)) k
-    ∙ trait_behind f xs ps m ps' ys qs z d e c.in_ok-push_segments.ensures
-    ∙ sym (ap kept c.node-behind.ensures.node) in
+        ap (λ j. segments f (drop j ys) (drop j qs)) k
+        ∙ trait_behind f xs ps m ps' ys qs z d e c.in_ok-push_segments.ensures
+        ∙ sym (ap kept c.node-behind.ensures.node) in
     ap (λ w. t.Pair w (segments f (drop n ys) (drop n qs))) u ∙ ap (t.Pair (kept c.args.mark.now)) v

@@ -13,7 +13,7 @@ returns-in_ok-push_punct-in-Some g t c =
     let x = c.in_ok-segment.segment in
     let p = c.in-Some.next.mark in
     let r : parted f x (Some c.in-Some.next) ≡ kept c.args.tree.now =
-    subst (λ o. parted f x o ≡ kept c.args.tree.now) c.in-Some.is c.in_ok-segment.ensures.whole in
+        subst (λ o. parted f x o ≡ kept c.args.tree.now) c.in-Some.is c.in_ok-segment.ensures.whole in
     if_ok c.push_segments.result _ _
     (added_more f (values c.args.list.now) (separators c.args.list.now) x p (values c.push_punct.new.self)
     (separators c.push_punct.new.self) (values c.push_segments.new.list) (separators c.push_segments.new.list)
@@ -27,7 +27,7 @@ returns-in-None g t c =
     let f = g.R.Reader.view in
     let x = c.in_ok-segment.segment in
     let h : last_segment f x ≡ kept c.args.tree.now =
-    subst (λ o. parted f x o ≡ kept c.args.tree.now) c.in-None.is c.in_ok-segment.ensures.whole in
+        subst (λ o. parted f x o ≡ kept c.args.tree.now) c.in-None.is c.in_ok-segment.ensures.whole in
     added_end f (values c.args.list.now) (separators c.args.list.now) x (values c.push_value.new.self)
     (separators c.push_value.new.self) (kept c.args.tree.now) c.in_ok-push_value.ensures.ok
     c.push_value.ensures.separators h

@@ -17,7 +17,7 @@ returns-in_ok-last_arguments-in_default g c =
     let n : c.alternative.result.0 ≡ 1 = omega arith in
     let e : c.node.result.now ≡ t.Second (t.Pair w b) = cc (second_of_two c.alternative.result.1.now) in
     let h : IsShaped (t.Second (t.Pair w b)) (table (k.Segment s)) =
-    subst (λ x. IsShaped x (table (k.Segment s))) e c.node.ensures.shaped in
+        subst (λ x. IsShaped x (table (k.Segment s))) e c.node.ensures.shaped in
     alone_named g.R.Reader.view c.in_ok-ident-in_default.field-0 c.in_ok-last_arguments-in_default.field-0 w b h.0
     c.in_ok-ident-in_default.ensures c.in_ok-last_arguments-in_default.ensures
     ∙ ap (t.Node (k.Segment k.AtType)) (sym (ap kept e)) ∙ sym (ap kept c.node.ensures.node)
