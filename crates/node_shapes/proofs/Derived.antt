@@ -1,6 +1,7 @@
 -- What was read has the shape of its entry, by the clauses of both.
-use Rattle.std.specs.Prelude.{◌≡◌, List, [], ◌++◌, ◌∷◌, true, false, refl}
+use Rattle.std.specs.Prelude.{◌≡◌, ◌&&◌, Bool, List, [], ◌++◌, ◌∷◌, not, true, false, refl}
 use Rattle.std.proofs.Common.{subst, sym, append_assoc}
+use Rattle.rust_leaf.specs.Minus.{starts_with_minus}
 use Rattle.proc_macro2.specs.Token.{Token, Punct, Closes}
 use Rattle.syn_grammar.specs.Kind.{Kind, Position, Expression, ExprAttributed, OuterAttributes, OuterAttribute}
 use Rattle.syn_grammar.specs.Name.{the_attributes, the_expression}
@@ -14,7 +15,7 @@ use Rattle.syn_grammar.specs.Gram.{judged, dropped, called, ref, operand}
 use Rattle.syn_grammar.specs.Read.{IsDerived}
 use Rattle.syn_grammar.specs.Table.{table}
 use Rattle.syn_grammar.specs.Derives.{Derives, Bound}
-use Rattle.node_shapes.specs.Forms.{begin_again, begin_again_in, begins_attributed}
+use Rattle.node_shapes.specs.Forms.{begin_again, begin_again_in}
 use Rattle.node_shapes.specs.Shape.{IsShaped, AreForms}
 use Rattle.node_shapes.specs.Streams.{are_trees}
 use Rattle.node_shapes.proofs.Streams.{split, split_form, behind_mark}
@@ -78,11 +79,16 @@ in_statement (Called the_attributes (Node OuterAttributes c)) (Pair (Called the_
     (subst (λ ts. sees (marks "#") ts ≡ false) (append_assoc (flat x) (flat s) rest) (called_end c a _ d))
 in_statement _ _ a b rest d e = refl
 
+-- a literal among the tokens of trees
+has_no_minus : (b : Bool) → (not b && true) ≡ true → b ≡ false
+has_no_minus true e = cc
+has_no_minus false e = refl
+
 mutual
   pub shaped : (x : Tree) (g : Gram) (rest : List Token) → Derives x g rest
       → are_trees (flat x) ≡ true → IsShaped x g
   shaped (AWord cs) (word p) rest d s = d
-  shaped (ALiteral cs) (literal p) rest d s = d
+  shaped (ALiteral cs) (literal p) rest d s = (d, has_no_minus (starts_with_minus cs) s)
   shaped (AMark c cs spacing) (mark e es) rest d s = d
   shaped (ALifetime cs) lifetime rest d s = tt
   shaped (Raw ts) raw rest d s = s

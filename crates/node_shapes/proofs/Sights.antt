@@ -13,7 +13,7 @@ use Rattle.syn_grammar.specs.Kind.{ExprReference, ExprRepeat, ExprReturn, ExprSh
 use Rattle.syn_grammar.specs.Kind.{ExprTryBlock, ExprTypedClosure, ExprUnary, ExprUnsafe, ExprWhile, ExprYield}
 use Rattle.syn_grammar.specs.Look.{seen, sees}
 use Rattle.syn_grammar.specs.Say.{marks}
-use Rattle.syn_grammar.specs.Tree.{Tree, End, Again, Alone, Front, Back, Infix, flat}
+use Rattle.syn_grammar.specs.Tree.{Tree, End, Again, Front, Back, Infix, flat}
 use Rattle.syn_grammar.specs.Gram.{Gram, star}
 use Rattle.syn_grammar.specs.Derives.{Derives, Bound}
 use Rattle.syn_grammar.specs.Forms.{Case, form, first_form, fronts, backs, front, back, has_right, level, may_be_left}

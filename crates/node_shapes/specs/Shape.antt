@@ -1,6 +1,7 @@
 -- The shape of an entry: a tree that is of the entry, but for the tests that look at the tokens that follow, and for
 -- how tightly operands bind.
-use Rattle.std.specs.Prelude.{◌≡◌, Bool, true, false}
+use Rattle.std.specs.Prelude.{◌≡◌, true, false}
+use Rattle.rust_leaf.specs.Minus.{starts_with_minus}
 use Rattle.syn_grammar.specs.Tree.{Tree, AWord, ALiteral, AMark, ALifetime, Raw, Nil, Pair, First, Second, End, Again}
 use Rattle.syn_grammar.specs.Tree.{Final, More, Group, Dropped, Called, Verbatim, Node, Whole, Alone, Front, Back}
 use Rattle.syn_grammar.specs.Tree.{Infix, flat}
@@ -14,8 +15,8 @@ use Rattle.node_shapes.specs.Streams.{are_trees}
 
 abbrev mutual
   -- The tree has the shape of the entry:
-  -- a word or a literal passes; a punctuation is that one, however its last mark is spaced; a lifetime is any, and
-  -- raw tokens are those of trees;
+  -- a word or a literal passes, and the literal has no minus of its own; a punctuation is that one, however its last
+  -- mark is spaced; a lifetime is any, and raw tokens are those of trees;
   -- the parts of a sequence stand one behind the other, and a statement's attributes are all that stand there;
   -- of a choice it is either, as the tree says; turns and elements are any number of those of the entry, and the
   -- separator is its own;
@@ -25,7 +26,7 @@ abbrev mutual
   -- a node of a kind has the shape of the kind's entry, and an expression is made of forms.
   pub IsShaped : Tree → Gram → Type 0
   IsShaped (AWord cs) (word p) = p cs ≡ true
-  IsShaped (ALiteral cs) (literal p) = p cs ≡ true
+  IsShaped (ALiteral cs) (literal p) = (p cs ≡ true) × (starts_with_minus cs ≡ false)
   IsShaped (AMark c cs spacing) (mark d ds) = (c ≡ d) × (cs ≡ ds)
   IsShaped (ALifetime cs) lifetime = Unit {0}
   IsShaped (Raw ts) raw = are_trees ts ≡ true

@@ -4,7 +4,8 @@ ghost use Rattle.node_shapes.specs.Shape.{IsShaped};
 ghost use Rattle.node_words.specs.Words as words;
 ghost use Rattle.proc_macro2.specs.Token.{Token};
 ghost use Rattle.rust_leaf.specs.Leaf.{literal_text};
-ghost use Rattle.std.specs.Prelude.{◌≡◌, Bool, IfOk, List, codes, ℕ};
+ghost use Rattle.rust_leaf.specs.Minus.{starts_with_minus};
+ghost use Rattle.std.specs.Prelude.{◌≡◌, Bool, IfOk, List, codes, false, ℕ};
 ghost use Rattle.syn_grammar.specs.Gram as g;
 ghost use Rattle.syn_grammar.specs.Kept.{kept};
 ghost use Rattle.syn_grammar.specs.Tree as t;
@@ -99,7 +100,7 @@ pub fn ident(tree: &Tree<'_>) -> Result<Ident, AllocError>
     }
 }
 
-/// A literal's token.
+/// A literal's token. It has no minus of its own.
 ///
 /// # Errors
 ///
@@ -107,7 +108,8 @@ pub fn ident(tree: &Tree<'_>) -> Result<Ident, AllocError>
 #[tactic(auto, using(crate::proofs::Takes::takes))]
 pub fn literal(tree: &Tree<'_>) -> Result<Literal, AllocError>
     requires { ((p : List ℕ → Bool) × IsShaped tree.now (g.literal p)) }
-    ensures { IfOk result (λ l. t.ALiteral (literal_text l) ≡ kept tree.now) }
+    ensures text { IfOk result (λ l. t.ALiteral (literal_text l) ≡ kept tree.now) }
+    ensures unsigned { IfOk result (λ l. starts_with_minus (literal_text l) ≡ false) }
 {
     match &tree.form {
         Form::Literal(held) => held.try_clone(),
