@@ -1,3 +1,4 @@
 pub mod Sights
 pub mod Streams
 pub mod Derived
+pub mod Braces
