@@ -18,7 +18,9 @@ use Rattle.syn_grammar.specs.Derives.{Derives, Bound}
 use Rattle.node_shapes.specs.Forms.{begin_again, begin_again_in}
 use Rattle.node_shapes.specs.Shape.{IsShaped, AreForms}
 use Rattle.node_shapes.specs.Streams.{are_trees}
+use Rattle.node_shapes.proofs.Named.{named_stands}
 use Rattle.node_shapes.proofs.Streams.{split, split_form, behind_mark}
+use Rattle.node_shapes.proofs.Typed.{typed_stands}
 use Rattle.node_shapes.proofs.Sights.{is_alone, is_before, is_behind, is_between, left_stands, begins_none}
 use Rattle.node_shapes.proofs.Sights.{star_ended}
 
@@ -116,13 +118,14 @@ mutual
   shaped (Verbatim x) (judged v g) rest d s = (d.0, shaped x g rest d.1 s, s)
   shaped (Dropped x) (dropped g) rest d s = shaped x g rest d s
   shaped (Called n x) (called m g) rest d s = (d.0, shaped x g rest d.1 s)
-  shaped (Node k x) (ref l) rest d s = (d.0, shaped x (table k) rest d.1 s)
+  shaped (Node k x) (ref l) rest d s = (d.0, shaped x (table k) rest d.1 s, named_stands k x rest d.1)
   shaped (Whole x) (operand p n) rest d s = formed p x rest d.1 s
   shaped _ _ rest d s = absurd d
 
   pub formed : (p : Position) (x : Tree) (rest : List Token) → Bound p x rest
       → are_trees (flat x) ≡ true → AreForms x
-  formed p (Alone k y) rest b s = (is_alone p k _ _ b.0 b.2, shaped y (table k) rest b.1 s)
+  formed p (Alone k y) rest b s =
+      (is_alone p k _ _ b.0 b.2, shaped y (table k) rest b.1 s, typed_stands p k y rest b.0 b.1)
   formed p (Front k y x) rest b s =
       let q = split y (table k) (flat x ++ rest) b.1 [] (flat x) s in (
         is_before p k _ _ b.0 b.2,

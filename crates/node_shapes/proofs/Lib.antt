@@ -2,3 +2,5 @@ pub mod Sights
 pub mod Streams
 pub mod Derived
 pub mod Braces
+pub mod Named
+pub mod Typed

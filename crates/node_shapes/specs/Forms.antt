@@ -1,5 +1,5 @@
 -- The forms of an expression by the operands that they have, and what may stand behind one.
-use Rattle.std.specs.Prelude.{Bool, true, false}
+use Rattle.std.specs.Prelude.{Bool, true, false, not}
 use Rattle.syn_grammar.specs.Kind.{Kind, ExprLit, ExprPath, ExprMacro, ExprParen, ExprArray, ExprRepeat, ExprGroup}
 use Rattle.syn_grammar.specs.Kind.{ExprInfer, ExprBlock, ExprUnsafe, ExprAsync, ExprConst, ExprTryBlock, ExprIf}
 use Rattle.syn_grammar.specs.Kind.{ExprMatch, ExprLoop, ExprWhile, ExprForLoop, ExprContinue, ExprTypedClosure}
@@ -9,9 +9,10 @@ use Rattle.syn_grammar.specs.Kind.{ExprBreak}
 use Rattle.syn_grammar.specs.Kind.{ExprReturn, ExprYield, ExprClosure, ExprRange, ExprRangeClosed, ExprAssign, ExprOr}
 use Rattle.syn_grammar.specs.Kind.{ExprAnd, ExprCompare, ExprBitOr, ExprBitXor, ExprBitAnd, ExprShift, ExprSum}
 use Rattle.syn_grammar.specs.Kind.{ExprProduct}
-use Rattle.syn_grammar.specs.Kind.{Expression, OuterAttributes}
+use Rattle.syn_grammar.specs.Kind.{AStatement, Expression, ItemMacro, OuterAttributes}
 use Rattle.syn_grammar.specs.Name.{the_attributes, the_expression}
-use Rattle.syn_grammar.specs.Tree.{Tree, Pair, Called, Node, Whole, Front, Back, Infix}
+use Rattle.syn_grammar.specs.Part.{choice}
+use Rattle.syn_grammar.specs.Tree.{Tree, Pair, First, Second, Called, Node, Whole, Front, Back, Infix}
 
 -- Forms without operands: atoms, blocks and what is made of them, a closure whose body is a block, and jumps and a
 -- range whose operands are missing.
@@ -103,3 +104,23 @@ begin_again_in (Called the_attributes (Node OuterAttributes a))
     (Pair (Called the_expression (Node (Expression p) (Whole x))) s) =
     begins_attributed x
 begin_again_in x y = false
+
+-- A closure whose body is a block says the type of its result.
+abbrev pub has_type : Kind → Tree → Bool
+has_type ExprTypedClosure (Pair h (Pair (Node k (Second x)) b)) = false
+has_type k y = true
+
+-- a macro that is an item and has a name
+abbrev pub is_named : Tree → Bool
+is_named (Node (ItemMacro p) (Pair x (Pair m (Pair (First i) y)))) = true
+is_named x = false
+
+abbrev pub is_named_item : Tree → Bool
+is_named_item (Node k (First (Pair a (Pair v (Called m x))))) = is_named (choice x)
+is_named_item x = false
+
+-- Among statements such an item is the first alternative, and another one the fourth.
+abbrev pub stands_named : Kind → Tree → Bool
+stands_named AStatement (First i) = is_named_item i
+stands_named AStatement (Second (Second (Second (First i)))) = not (is_named_item i)
+stands_named k x = true

@@ -10,7 +10,7 @@ use Rattle.syn_grammar.specs.Gram.{judged, dropped, called, ref, operand, Keep, 
 use Rattle.syn_grammar.specs.Forms.{may_be_left}
 use Rattle.syn_grammar.specs.Table.{table}
 use Rattle.node_shapes.specs.Forms.{stands_alone, stands_before, stands_behind, stands_between, begin_again}
-use Rattle.node_shapes.specs.Forms.{begin_again_in}
+use Rattle.node_shapes.specs.Forms.{begin_again_in, has_type, stands_named}
 use Rattle.node_shapes.specs.Streams.{are_trees}
 
 abbrev mutual
@@ -23,7 +23,8 @@ abbrev mutual
   -- a group has the entry's delimiter, and a part the entry's name;
   -- what is judged is kept, or its tokens, which are those of trees, are, as it is judged, and what is to be
   -- forgotten is marked so;
-  -- a node of a kind has the shape of the kind's entry, and an expression is made of forms.
+  -- a node of a kind has the shape of the kind's entry, an item among statements stands as it is named, and an
+  -- expression is made of forms.
   pub IsShaped : Tree → Gram → Type 0
   IsShaped (AWord cs) (word p) = p cs ≡ true
   IsShaped (ALiteral cs) (literal p) = (p cs ≡ true) × (starts_with_minus cs ≡ false)
@@ -44,14 +45,15 @@ abbrev mutual
   IsShaped (Verbatim x) (judged v g) = (v x ≡ AsRaw) × IsShaped x g × (are_trees (flat x) ≡ true)
   IsShaped (Dropped x) (dropped g) = IsShaped x g
   IsShaped (Called n x) (called m g) = (n ≡ m) × IsShaped x g
-  IsShaped (Node k x) (ref l) = (k ≡ l) × IsShaped x (table k)
+  IsShaped (Node k x) (ref l) = (k ≡ l) × IsShaped x (table k) × (stands_named k x ≡ true)
   IsShaped (Whole x) (operand p n) = AreForms x
   IsShaped _ _ = ⊥
 
   -- Each form is of a kind that has the operands that stand there, and its own part has the shape of the kind's
-  -- entry; what has attributes has all of them at once; and what stands left of a form may stand there.
+  -- entry; a closure with a type has one; what has attributes has all of them at once; and what stands left of a form
+  -- may stand there.
   pub AreForms : Tree → Type 0
-  AreForms (Alone k y) = (stands_alone k ≡ true) × IsShaped y (table k)
+  AreForms (Alone k y) = (stands_alone k ≡ true) × IsShaped y (table k) × (has_type k y ≡ true)
   AreForms (Front k y x) =
       (stands_before k ≡ true) × IsShaped y (table k) × (begin_again k x ≡ false) × AreForms x
   AreForms (Back l k y) =
