@@ -203,9 +203,9 @@ pub fn expr_unary<E: Drop, R: Reader<E>>(
     })
 }
 
-// A comparison's operator.
+/// A comparison's operator.
 #[tactic(auto, using(node_take::proofs::Takes::shaped_never), unfolding(syn_grammar::specs::Table::table, syn_grammar::specs::Kept::held, syn_kinds::specs::Table::marks, syn_kinds::specs::Table::sign, syn_kinds::specs::Table::word))]
-fn compare_op(own: &Tree<'_>) -> BinOp
+pub fn compare_op(own: &Tree<'_>) -> BinOp
     requires { IsShaped own.now (table k.ExprCompare) }
     ensures op { views.bin_op result ≡ kept own.now }
     ensures kind { views.bin_op_kind result ≡ k.ExprCompare }
@@ -222,9 +222,9 @@ fn compare_op(own: &Tree<'_>) -> BinOp
     }
 }
 
-// A shift's operator.
+/// A shift's operator.
 #[tactic(auto, using(node_take::proofs::Takes::shaped_never), unfolding(syn_grammar::specs::Table::table, syn_grammar::specs::Kept::held, syn_kinds::specs::Table::marks, syn_kinds::specs::Table::sign, syn_kinds::specs::Table::word))]
-fn shift_op(own: &Tree<'_>) -> BinOp
+pub fn shift_op(own: &Tree<'_>) -> BinOp
     requires { IsShaped own.now (table k.ExprShift) }
     ensures op { views.bin_op result ≡ kept own.now }
     ensures kind { views.bin_op_kind result ≡ k.ExprShift }
@@ -237,9 +237,9 @@ fn shift_op(own: &Tree<'_>) -> BinOp
     }
 }
 
-// A sum's operator.
+/// A sum's operator.
 #[tactic(auto, using(node_take::proofs::Takes::shaped_never), unfolding(syn_grammar::specs::Table::table, syn_grammar::specs::Kept::held, syn_kinds::specs::Table::marks, syn_kinds::specs::Table::sign, syn_kinds::specs::Table::word))]
-fn sum_op(own: &Tree<'_>) -> BinOp
+pub fn sum_op(own: &Tree<'_>) -> BinOp
     requires { IsShaped own.now (table k.ExprSum) }
     ensures op { views.bin_op result ≡ kept own.now }
     ensures kind { views.bin_op_kind result ≡ k.ExprSum }
@@ -252,9 +252,9 @@ fn sum_op(own: &Tree<'_>) -> BinOp
     }
 }
 
-// A product's operator.
+/// A product's operator.
 #[tactic(auto, using(node_take::proofs::Takes::shaped_never), unfolding(syn_grammar::specs::Table::table, syn_grammar::specs::Kept::held, syn_kinds::specs::Table::marks, syn_kinds::specs::Table::sign, syn_kinds::specs::Table::word))]
-fn product_op(own: &Tree<'_>) -> BinOp
+pub fn product_op(own: &Tree<'_>) -> BinOp
     requires { IsShaped own.now (table k.ExprProduct) }
     ensures op { views.bin_op result ≡ kept own.now }
     ensures kind { views.bin_op_kind result ≡ k.ExprProduct }

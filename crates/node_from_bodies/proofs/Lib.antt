@@ -1,0 +1,9 @@
+pub mod BlockForms
+pub mod FieldTexts
+pub mod FrontAttributes
+pub mod GivenForms
+pub mod LiteralTokens
+pub mod NothingStands
+pub mod RestAlone
+pub mod Singles
+pub mod TwoWords

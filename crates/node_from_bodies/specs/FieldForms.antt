@@ -1,0 +1,13 @@
+-- Fields by their numbers.
+use Rattle.std.specs.Prelude.{ℕ}
+use Rattle.std.specs.Fmt.{decimal}
+use Rattle.syn_grammar.specs.Kept.{lone_dot}
+use Rattle.syn_grammar.specs.Kind.{ExprField}
+use Rattle.syn_grammar.specs.Name.{the_indices, the_value}
+use Rattle.syn_grammar.specs.Tree.{Tree, ALiteral, Pair, Second, End, Called, Back}
+
+-- behind a value the field of that number
+abbrev pub numbered : Tree → ℕ → Tree
+numbered l n =
+    Back l ExprField
+    (Pair (Pair lone_dot (Called the_indices End)) (Second (Called the_value (ALiteral (decimal n)))))
