@@ -20,14 +20,17 @@ use Rattle.node_from_bodies.proofs.TwoWords.{the_word}
 plain : (cs : List ℕ) → starts_with_minus cs ≡ false → paths.literal cs ≡ t.ALiteral cs
 plain cs m = ap (λ b. cond b (t.Pair (filled "-") (t.ALiteral (drop 1 cs))) (t.ALiteral cs)) m
 
+no_word : (cs ds : List ℕ) → token.Ident cs ≡ token.Literal ds → ⊥
+no_word cs ds e = cc e
+
 pub plain_token : (l : Lit) (cs : List ℕ) (s : Span) → lits.lit_token l ≡ spanned (token.Literal cs) s
     → lits.lit_text l ≡ cs → starts_with_minus cs ≡ false → paths.lit_token l ≡ t.ALiteral cs
-plain_token (lit.Bool b) cs s e h m = cc e
+plain_token (lit.Bool b) cs s e h m = absurd (no_word (bool_text b.value) cs (ap (λ x. x.token) e))
 plain_token _ cs s e h m = ap paths.literal h ∙ plain cs m
 
 pub plain_lit : (l : Lit) (cs : List ℕ) (s : Span) → lits.lit_token l ≡ spanned (token.Literal cs) s
     → lits.lit_text l ≡ cs → starts_with_minus cs ≡ false → paths.lit l ≡ t.First (t.ALiteral cs)
-plain_lit (lit.Bool b) cs s e h m = cc e
+plain_lit (lit.Bool b) cs s e h m = absurd (no_word (bool_text b.value) cs (ap (λ x. x.token) e))
 plain_lit _ cs s e h m = ap t.First (ap paths.literal h ∙ plain cs m)
 
 pub ruleset tokens = (plain_token, plain_lit)

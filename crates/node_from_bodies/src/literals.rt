@@ -55,11 +55,14 @@ pub fn signed(tree: &Tree<'_>) -> Result<(Option<token::Minus>, Lit), AllocError
     requires { IsShaped tree.now signed_literal }
     ensures { IfOk result (λ r. views.signed r.0 r.1 ≡ kept tree.now) }
 {
-    match take::alternative(1, tree) {
-        (0, behind) => {
-            let (minus, number) = take::pair(behind);
-            Ok((Some(take::sign(minus)), Lit::new(take::literal(number)?)))
+    let (which, inside) = take::alternative(2, tree);
+    match which {
+        0 => {
+            let (minus, number) = take::pair(inside);
+            let lit = Lit::new(take::literal(number)?);
+            Ok((Some(take::sign(minus)), lit))
         }
-        (_, literal) => Ok((None, lit(literal)?)),
+        1 => Ok((None, Lit::new(take::literal(inside)?))),
+        _ => Ok((None, Lit::Bool(boolean(inside)))),
     }
 }

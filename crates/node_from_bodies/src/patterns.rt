@@ -1,6 +1,5 @@
-//! Patterns without paths, and alternatives.
+//! `_`, `..`, references, and patterns in parentheses and brackets.
 
-ghost use Rattle.node_from.specs.Whats.{single};
 ghost use Rattle.node_from_bodies.specs.PatternParts.{is_one_rest, is_rest};
 ghost use Rattle.node_shapes.specs.Shape.{IsShaped};
 ghost use Rattle.node_views.specs.Patterns as views;
@@ -10,7 +9,6 @@ ghost use Rattle.std.specs.Prelude.{◌≡◌, ◌≤◌, IfOk};
 ghost use Rattle.syn_grammar.specs.Gram as g;
 ghost use Rattle.syn_grammar.specs.Kept.{kept};
 ghost use Rattle.syn_grammar.specs.Kind as k;
-ghost use Rattle.syn_grammar.specs.Tree as t;
 
 use crate::Maker;
 use crate::lists::Patterns;

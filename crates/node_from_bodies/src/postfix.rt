@@ -4,16 +4,13 @@
 ghost use Rattle.node_shapes.specs.Shape.{AreForms, IsShaped};
 ghost use Rattle.node_views.specs.Expressions as views;
 ghost use Rattle.reader_tree.specs.Size.{node_count};
-ghost use Rattle.rust_leaf.specs.Leaf.{literal_text};
 ghost use Rattle.std.specs.Prelude.{◌≡◌, ◌<◌, ◌≤◌, IfOk};
 ghost use Rattle.std.specs.Str.{chars};
-ghost use Rattle.syn_grammar.specs.Expressions.{dot as dot_entry};
 ghost use Rattle.syn_grammar.specs.Kept.{dotted, fields_in_front, index_fields, kept};
 ghost use Rattle.syn_grammar.specs.Kind as k;
 ghost use Rattle.syn_grammar.specs.Table.{table};
-ghost use Rattle.syn_grammar.specs.Tree as t;
 ghost use Rattle.syn_grammar.specs.Words.{indices};
-ghost use Rattle.node_from_bodies.specs.Operands.{indices_of};
+ghost use Rattle.node_from_bodies.specs.FieldForms.{indices_of};
 
 use crate::Maker;
 use crate::form::ExprForm;
@@ -32,7 +29,7 @@ use syn_leaf::member::{Index, Member};
 use writer_rules::fields::index;
 
 // Behind a value the indices that a text writes, of which the last one is the field.
-#[tactic(auto, using(crate::proofs::Fields::all_fields), unfolding(syn_grammar::specs::Table::table, syn_grammar::specs::Kept::held, syn_kinds::specs::Table::marks, syn_kinds::specs::Table::sign, syn_kinds::specs::Table::word))]
+#[tactic(auto, using(crate::proofs::FieldTexts::all_indices))]
 fn field_of_text<E: Drop, R: Maker<E>>(
     below: &R,
     base: Box<E>,
@@ -62,7 +59,7 @@ fn field_of_text<E: Drop, R: Maker<E>>(
 }
 
 // Behind a value the fields of numbers that end in a dot.
-fn fields_in_front<E: Drop, R: Maker<E>>(
+fn front_fields<E: Drop, R: Maker<E>>(
     below: &R,
     left: &Tree<'_>,
     numbers: &Tree<'_>,
@@ -102,7 +99,7 @@ pub fn expr_await<E: Drop, R: Maker<E>>(
 {
     let (dot, await_token) = take::pair(own);
     let (dot_token, numbers) = take::pair(dot);
-    let base = fields_in_front(below, left, take::called(numbers))?;
+    let base = front_fields(below, left, take::called(numbers))?;
     Ok(ExprAwait {
         attrs: Vec::new(below.alloc()),
         base,
@@ -132,7 +129,7 @@ pub fn expr_method_call<E: Drop, R: Maker<E>>(
 {
     let (dot, name, turbofish, enclosed) = take::four(own);
     let (dot_token, numbers) = take::pair(dot);
-    let receiver = fields_in_front(below, left, take::called(numbers))?;
+    let receiver = front_fields(below, left, take::called(numbers))?;
     let method = take::ident(take::called(name))?;
     let turbofish = match take::optional(turbofish) {
         Some(arguments) => Some(angle_bracketed(below, arguments)?),
@@ -170,7 +167,7 @@ pub fn expr_field<E: Drop, R: Maker<E>>(
 {
     let (dot, member) = take::pair(own);
     let (dot_token, numbers) = take::pair(dot);
-    let base = fields_in_front(below, left, take::called(numbers))?;
+    let base = front_fields(below, left, take::called(numbers))?;
     match take::alternative(1, member) {
         (0, name) => {
             let name = take::ident(take::called(name))?;
