@@ -1,3 +1,7 @@
+pub mod BlockForms
+pub mod FieldTexts
+pub mod FrontAttributes
+pub mod GivenForms
 pub mod LiteralTokens
 pub mod NothingStands
 pub mod RestAlone

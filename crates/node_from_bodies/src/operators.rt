@@ -1,4 +1,4 @@
-//! Operators between operands, ranges, casts, `let` and raw pointers: their forms, each without attributes.
+//! Operators, ranges, assignments and casts: their forms, each without attributes.
 
 ghost use Rattle.node_from_bodies.specs.ExprForms.{expr_form};
 ghost use Rattle.node_from_bodies.specs.Operands.{assigned, is_range, kept_of, MayBeMade, raw_words};
@@ -177,7 +177,7 @@ pub fn expr_raw_addr<E: Drop, R: Maker<E>>(
     })
 }
 
-// The operator of an assignment: `=`, or one with another operator in it.
+/// The operator of an assignment: `=`, or one with another operator in it.
 #[derive(Clone, Copy)]
 enum Assigned {
     /// `=`

@@ -72,9 +72,9 @@ unfolding table
 item_read j (First (Pair (Node l p) (Pair (Called n (Node k v)) (Called m i)))) r d e =
     let d' = d.1 in
     let o : flat v ≡ [] =
-    public_none v (flat i ++ r) (subst (λ j. Derives v (table j) (flat i ++ r)) d'.1.0.1.0 d'.1.0.1.1)
-    (not_public (has the_pub v) (choice i) e
-    (of_whole l p n k v m i Keep d'.1.0.0 d'.1.1.0 d'.1.0.1.0 d.0)) in
+        public_none v (flat i ++ r) (subst (λ j. Derives v (table j) (flat i ++ r)) d'.1.0.1.0 d'.1.0.1.1)
+        (not_public (has the_pub v) (choice i) e
+        (of_whole l p n k v m i Keep d'.1.0.0 d'.1.1.0 d'.1.0.1.0 d.0)) in
     behind_attributes (Node l p) (Pair (Called n (Node k v)) (Called m i)) macro_item_stands r true d'.0
     (ap (λ us. sees macro_item_stands ((us ++ flat i) ++ r)) o ∙ chosen_read i item_form r d'.1.1.1 e)
 item_read j (First (Pair (Node l p) (Pair (Called n (Node k v)) _))) r d e = absurd d.1.1.1
