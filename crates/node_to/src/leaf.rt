@@ -1,12 +1,16 @@
 //! Tokens as trees.
 
 ghost use Rattle.node_words.specs.Words as words;
-ghost use Rattle.reader_table.specs.Words.{sign_text};
-ghost use Rattle.std.specs.Prelude.{◌≡◌, IfOk};
+ghost use Rattle.reader_table.specs.Words.{keyword_text, sign_text};
+ghost use Rattle.rust_leaf.specs.Leaf.{ident_text};
+ghost use Rattle.std.specs.Prelude.{◌≡◌, IfOk, cond};
+ghost use Rattle.syn_grammar.specs.Tree as t;
+ghost use Rattle.syn_grammar.specs.Words.{same_text};
 ghost use Rattle.syn_kinds.specs.Table.{marks};
 
 use crate::to_tree::ToTree;
-use reader_table::word::Sign;
+use reader_table::word::{Keyword as Word, Sign};
+use reader_tokens::leaf::is_keyword;
 use reader_tree::arena::Arena;
 use reader_tree::made;
 use reader_tree::tree::Tree;
@@ -83,6 +87,24 @@ pub fn sign_or<'a, const K: usize, const N: usize>(
     Ok(made::mark(mark, Spacing::Alone, span))
 }
 
+/// The punctuation that an entry asks for, or nothing where the node lacks it.
+///
+/// # Errors
+///
+/// None.
+pub fn given_sign<'a, const K: usize, const N: usize>(
+    mark: Sign,
+    held: &Option<Punctuation<K, N>>,
+) -> Result<Tree<'a>, AllocError>
+    requires { sign_text mark ≡ marks K N }
+    ensures { IfOk result (λ x. x ≡ words.given words.mark held.now) }
+{
+    match held {
+        Some(token) => sign(mark, token),
+        None => Ok(made::nil()),
+    }
+}
+
 /// What stands there, if anything does.
 ///
 /// # Errors
@@ -97,6 +119,37 @@ pub fn optional<'a, T: ToTree>(
     match held {
         Some(inner) => made::first(arena, inner.to_tree(arena)?),
         None => made::second(arena, made::nil()),
+    }
+}
+
+/// What an entry asks for, or nothing where the node lacks it.
+///
+/// # Errors
+///
+/// Where there is no memory for it.
+pub fn given<'a, T: ToTree>(arena: &'a Arena, held: &'a Option<T>) -> Result<Tree<'a>, AllocError>
+    ensures { IfOk result (λ x. x ≡ words.given T.tree held.now) }
+{
+    match held {
+        Some(inner) => inner.to_tree(arena),
+        None => Ok(made::nil()),
+    }
+}
+
+/// A name where that word may stand too: the first of two if it is the word.
+///
+/// # Errors
+///
+/// Where there is no memory for it.
+pub fn name_or<'a>(arena: &'a Arena, word: Word, ident: &'a Ident) -> Result<Tree<'a>, AllocError>
+    ensures { IfOk result (λ x. x ≡ cond (same_text (keyword_text word) (ident_text ident.now))
+        (t.First (words.name ident.now)) (t.Second (words.name ident.now))) }
+{
+    let name = made::word(ident);
+    if is_keyword(ident, word) {
+        made::first(arena, name)
+    } else {
+        made::second(arena, name)
     }
 }
 
