@@ -1,5 +1,5 @@
 -- The separator at an index.
-use Rattle.std.specs.Prelude.{◌≡◌, ◌≢◌, ◌≤◌, ◌<◌, ◌-◌, ℕ, zero, suc, List, [], ◌∷◌, Option, length, take, refl}
+use Rattle.std.specs.Prelude.{◌≡◌, ◌≢◌, ◌-◌, ℕ, zero, suc, List, [], ◌∷◌, Option, drop, take, refl}
 use Rattle.std.proofs.Common.{arith}
 use Rattle.syn_grammar.specs.Tree as t
 use Rattle.syn_kinds.specs.declared.punctuation.Punctuation.{Punctuation}
@@ -7,17 +7,18 @@ use Rattle.node_words.specs.Words.{given, mark}
 use Rattle.node_views.specs.Paths.{behind_trait, inner, mark_at}
 
 -- none is there
-pub no_mark_at : {K N : ℕ} (n : ℕ) (ps : List (Punctuation K N)) → length ps ≤ n → t.Nil ≡ mark_at n ps
+pub no_mark_at : {K N : ℕ} (n : ℕ) (ps : List (Punctuation K N)) → drop n ps ≡ [] → t.Nil ≡ mark_at n ps
 no_mark_at n [] e = refl
-no_mark_at zero (p ∷ ps) e = absurd (omega (arith, e))
-no_mark_at (suc n) (p ∷ ps) e = no_mark_at n ps (omega (arith, e))
+no_mark_at zero (p ∷ ps) e = cc
+no_mark_at (suc n) (p ∷ ps) e = no_mark_at n ps e
 
 -- one is
-pub some_mark_at : {K N : ℕ} (n : ℕ) (ps : List (Punctuation K N)) (q : Punctuation K N) → n < length ps
-    → mark q ≡ mark_at n ps
-some_mark_at n [] q e = absurd (omega (arith, e))
-some_mark_at zero (p ∷ ps) q e = refl
-some_mark_at (suc n) (p ∷ ps) q e = some_mark_at n ps q (omega (arith, e))
+pub some_mark_at : {K N : ℕ} (n : ℕ) (ps : List (Punctuation K N)) (q : Punctuation K N)
+    (qs : List (Punctuation K N)) → drop n ps ≡ q ∷ qs → mark q ≡ mark_at n ps
+some_mark_at zero [] q qs e = cc
+some_mark_at (suc n) [] q qs e = cc
+some_mark_at zero (p ∷ ps) q qs e = refl
+some_mark_at (suc n) (p ∷ ps) q qs e = some_mark_at n ps q qs e
 
 pub ruleset marks_at = (no_mark_at, some_mark_at)
 

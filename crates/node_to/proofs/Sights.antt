@@ -30,7 +30,7 @@ pair_tree (Some p) = t.Pair p.0 p.1
 
 abbrev front_tree : Option (Kind × Tree × Tree) → Tree
 front_tree None = t.Nil
-front_tree (Some p) = t.Front p.0 p.1.0 p.1.1
+front_tree (Some p) = t.Front p.0 p.1 p.2
 
 abbrev group_tree : Option (Delimiter × Tree) → Tree
 group_tree None = t.Nil

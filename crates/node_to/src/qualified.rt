@@ -77,9 +77,9 @@ fn as_trait<'a, E: ToTree>(
 fn mark_at<'a>(index: usize, separators: &[token::PathSep]) -> Result<Tree<'a>, AllocError>
     ensures { IfOk result (λ x. x ≡ views.mark_at index separators.now) }
 {
-    match separators.get(index) {
-        Some(separator) => sign(Sign::PathSep, separator),
-        None => Ok(made::nil()),
+    match back_of(separators, index) {
+        [] => Ok(made::nil()),
+        [separator, ..] => sign(Sign::PathSep, separator),
     }
 }
 

@@ -174,8 +174,14 @@ pub fn is_end(tree: &Tree<'_>) -> bool
 {
     match &tree.form {
         Form::End => true,
-        Form::Turns(turns) => turns.each.is_empty(),
-        Form::Elements(list) => list.before.is_empty() && list.last.is_none(),
+        Form::Turns(turns) => match turns.each {
+            [] => true,
+            [_, ..] => false,
+        },
+        Form::Elements(list) => match (list.before, list.last) {
+            ([], None) => true,
+            _ => false,
+        },
         _ => false,
     }
 }
