@@ -1,6 +1,10 @@
+pub mod Alternatives
 pub mod Constants
+pub mod Depths
 pub mod Leaves
 pub mod Lists
 pub mod Literals
+pub mod Marks
 pub mod Raws
 pub mod Sights
+pub mod Visibilities

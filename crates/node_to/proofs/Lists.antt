@@ -4,10 +4,11 @@ use Rattle.std.specs.Prelude.{length, map, take, refl}
 use Rattle.std.proofs.Common.{arith, ap, subst, ◌∙◌}
 use Rattle.rust_leaf.specs.declared.punct.Spacing.TheVariants.{Alone}
 use Rattle.reader_tree.specs.Forms.{elements, turns as in_turn}
+use Rattle.reader_tree.specs.declared.tree.Element.{Element}
 use Rattle.syn_grammar.specs.Tree as t
 use Rattle.syn_grammar.specs.Tree.{Tree}
 use Rattle.node_to.specs.Elements.{element_of}
-use Rattle.node_words.specs.Words.{listed, turns}
+use Rattle.node_words.specs.Words.{all_listed, listed, turns}
 
 -- a separator behind each value
 pub all_elements : {A P : Type 0} (c : ℕ) (f : A → Tree) (xs : List A) (ps : List P) → length xs ≤ length ps
@@ -40,6 +41,18 @@ last_of c f vs xs z ps e h l =
     let q : xs ++ z ∷ [] ≡ vs = ap (λ ys. ys ++ z ∷ []) e ∙ h in
     subst (λ ws. elements c (map (element_of f) xs) (t.Final (f z)) ≡ listed c f ws ps) q
     (last_element c f xs z ps (omega (arith, l, longer xs z, ap (λ ws. length ws) q)))
+
+-- a mark behind each of those that stand before the last one
+pub before_last : {A : Type 0} (c : ℕ) (f : A → Tree) (xs : List A) (y : Tree)
+    → elements c (map (element_of f) xs) y ≡ all_listed c f xs y
+before_last c f [] y = refl
+before_last c f (x ∷ xs) y = ap (λ w. t.More (f x) c Alone w) (before_last c f xs y)
+
+-- and of it too
+pub before_ended : {A : Type 0} (c : ℕ) (f : A → Tree) (xs : List A) (e : Element) (y : Tree)
+    → elements c (map (element_of f) xs ++ e ∷ []) y ≡ all_listed c f xs (t.More e.tree c e.spacing y)
+before_ended c f [] e y = refl
+before_ended c f (x ∷ xs) e y = ap (λ w. t.More (f x) c Alone w) (before_ended c f xs e y)
 
 -- turns, of what they are made of
 pub turns_are : {A : Type 0} (f : A → Tree) (xs : List A) → in_turn (map f xs) ≡ turns f xs

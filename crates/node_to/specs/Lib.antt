@@ -1,2 +1,4 @@
+pub mod Depths
 pub mod Elements
 pub mod Sights
+pub mod Visibilities

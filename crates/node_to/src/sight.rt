@@ -1,6 +1,6 @@
 //! What a tree is, where something else is made of it by that.
 
-ghost use Rattle.node_to.specs.Sights.{called_parts, front_parts, group_parts, is_absent, is_nil, second_of};
+ghost use Rattle.node_to.specs.Sights.{called_parts, front_parts, group_parts, is_absent, is_end, is_nil, second_of};
 ghost use Rattle.proc_macro2.specs.declared.delimiter.Delimiter.{Delimiter as GivenDelimiter};
 ghost use Rattle.reader_table.specs.Kinds.{kind_of};
 ghost use Rattle.reader_table.specs.Parts.{part_of};
@@ -164,6 +164,25 @@ pub fn called_inside<'t, 'a>(tree: &'t Tree<'a>) -> Option<(Part, &'t Tree<'a>)>
     match called(tree) {
         Some(both) => Some(both),
         None => None,
+    }
+}
+
+/// Whether it is no turn, and no element.
+#[tactic(auto, using(crate::proofs::Sights::ends))]
+pub fn is_end(tree: &Tree<'_>) -> bool
+    ensures { result ≡ is_end tree.now }
+{
+    match &tree.form {
+        Form::End => true,
+        Form::Turns(turns) => match turns.each {
+            [] => true,
+            [_, ..] => false,
+        },
+        Form::Elements(list) => match (list.before, list.last) {
+            ([], None) => true,
+            _ => false,
+        },
+        _ => false,
     }
 }
 

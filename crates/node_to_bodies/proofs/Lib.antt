@@ -1,0 +1,3 @@
+pub mod Forms
+pub mod Patterns
+pub mod Statements

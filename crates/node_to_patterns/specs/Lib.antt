@@ -1,0 +1,4 @@
+pub mod Bounds
+pub mod Cases
+pub mod Shorthands
+pub mod Starts
