@@ -110,11 +110,6 @@ impl Drop for Expr {
     #[cycle(let_go)]
     fn drop(self) {
         match self {
-            Expr::Continue(ExprContinue { attrs, .. })
-            | Expr::Infer(ExprInfer { attrs, .. })
-            | Expr::Lit(ExprLit { attrs, .. }) => {
-                drop(attrs);
-            }
             Expr::Array(ExprArray { attrs, elems, .. })
             | Expr::Tuple(ExprTuple { attrs, elems, .. }) => {
                 drop(attrs);
@@ -122,13 +117,6 @@ impl Drop for Expr {
             }
             Expr::Await(
                 ExprAwait {
-                    attrs,
-                    base: operand,
-                    ..
-                },
-            )
-            | Expr::Field(
-                ExprField {
                     attrs,
                     base: operand,
                     ..
@@ -231,14 +219,7 @@ impl Drop for Expr {
                 drop(left);
                 drop(right);
             }
-            Expr::Break(
-                ExprBreak {
-                    attrs,
-                    expr: value,
-                    ..
-                },
-            )
-            | Expr::Return(
+            Expr::Return(
                 ExprReturn {
                     attrs,
                     expr: value,
@@ -256,25 +237,42 @@ impl Drop for Expr {
                 drop(value);
             }
             Expr::Async(ExprAsync { attrs, block, .. })
-            | Expr::Block(ExprBlock { attrs, block, .. })
             | Expr::Const(ExprConst { attrs, block, .. })
-            | Expr::Loop(
-                ExprLoop {
-                    attrs,
-                    body: block,
-                    ..
-                },
-            )
             | Expr::TryBlock(ExprTryBlock { attrs, block, .. })
             | Expr::Unsafe(ExprUnsafe { attrs, block, .. }) => {
                 drop(attrs);
                 drop(block);
             }
+            Expr::Block(
+                ExprBlock {
+                    attrs,
+                    label,
+                    block,
+                    ..
+                },
+            )
+            | Expr::Loop(
+                ExprLoop {
+                    attrs,
+                    label,
+                    body: block,
+                    ..
+                },
+            ) => {
+                drop(attrs);
+                drop(label);
+                drop(block);
+            }
+            Expr::Break(node) => drop(node),
             Expr::Call(node) => drop(node),
             Expr::Closure(node) => drop(node),
+            Expr::Continue(node) => drop(node),
+            Expr::Field(node) => drop(node),
             Expr::ForLoop(node) => drop(node),
             Expr::If(node) => drop(node),
+            Expr::Infer(node) => drop(node),
             Expr::Item(node) => drop(node),
+            Expr::Lit(node) => drop(node),
             Expr::Macro(node) => drop(node),
             Expr::Match(node) => drop(node),
             Expr::Meta(node) => drop(node),
