@@ -1,0 +1,2 @@
+//! What an expression and an item is as a tree of the grammar.
+#![tactic(auto)]
