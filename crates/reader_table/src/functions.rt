@@ -79,42 +79,14 @@ static SIGNATURE_IN_FOREIGN: [Op; 31] = [
     Op::Ref(Kind::ReturnType(Plus::WithPlus)), Op::Called(Part::Where), Op::Ref(Kind::Where),
 ];
 
-/// const? async? unsafe? Abi? fn Ident generics (parameters) (-> Type)? where?
-#[rattlefmt::skip]
-static SIGNATURE_IN_TRAIT: [Op; 31] = [
-    Op::Seq(3), Op::Alt(Test::Sees(Look::Word(Words::Keyword(Keyword::Const))), 1),
-    Op::Word(Words::Keyword(Keyword::Const)), Op::Nothing, Op::Seq(3),
-    Op::Alt(Test::Sees(Look::Word(Words::Keyword(Keyword::Async))), 1), Op::Word(Words::Keyword(Keyword::Async)),
-    Op::Nothing, Op::Seq(4), Op::Alt(Test::Sees(Look::Word(Words::Keyword(Keyword::Unsafe))), 2),
-    Op::Called(Part::Safety), Op::Word(Words::Keyword(Keyword::Unsafe)), Op::Nothing, Op::Seq(3),
-    Op::Alt(Test::Sees(Look::Word(Words::Keyword(Keyword::Extern))), 1), Op::Ref(Kind::Abi), Op::Nothing, Op::Seq(1),
-    Op::Word(Words::Keyword(Keyword::Fn)), Op::Seq(2), Op::Called(Part::Name), Op::Word(Words::Ident), Op::Seq(2),
-    Op::Called(Part::Generics), Op::Ref(Kind::Generics), Op::Seq(1), Op::Ref(Kind::Parameters), Op::Seq(1),
-    Op::Ref(Kind::ReturnType(Plus::WithPlus)), Op::Called(Part::Where), Op::Ref(Kind::Where),
-];
-
-/// const? async? unsafe? Abi? fn Ident generics (parameters) (-> Type)? where?
-#[rattlefmt::skip]
-static SIGNATURE_IN_IMPL: [Op; 31] = [
-    Op::Seq(3), Op::Alt(Test::Sees(Look::Word(Words::Keyword(Keyword::Const))), 1),
-    Op::Word(Words::Keyword(Keyword::Const)), Op::Nothing, Op::Seq(3),
-    Op::Alt(Test::Sees(Look::Word(Words::Keyword(Keyword::Async))), 1), Op::Word(Words::Keyword(Keyword::Async)),
-    Op::Nothing, Op::Seq(4), Op::Alt(Test::Sees(Look::Word(Words::Keyword(Keyword::Unsafe))), 2),
-    Op::Called(Part::Safety), Op::Word(Words::Keyword(Keyword::Unsafe)), Op::Nothing, Op::Seq(3),
-    Op::Alt(Test::Sees(Look::Word(Words::Keyword(Keyword::Extern))), 1), Op::Ref(Kind::Abi), Op::Nothing, Op::Seq(1),
-    Op::Word(Words::Keyword(Keyword::Fn)), Op::Seq(2), Op::Called(Part::Name), Op::Word(Words::Ident), Op::Seq(2),
-    Op::Called(Part::Generics), Op::Ref(Kind::Generics), Op::Seq(1), Op::Ref(Kind::Parameters), Op::Seq(1),
-    Op::Ref(Kind::ReturnType(Plus::WithPlus)), Op::Called(Part::Where), Op::Ref(Kind::Where),
-];
-
 pub(crate) fn signature(place: Place) -> &'static [Op]
     ensures { gram_of result.now ≡ table (kind_of (kinds.Signature place)) }
 {
     match place {
         Place::InFile => &SIGNATURE_IN_FILE,
         Place::InForeign => &SIGNATURE_IN_FOREIGN,
-        Place::InTrait => &SIGNATURE_IN_TRAIT,
-        Place::InImpl => &SIGNATURE_IN_IMPL,
+        Place::InTrait => &SIGNATURE_IN_FILE,
+        Place::InImpl => &SIGNATURE_IN_FILE,
     }
 }
 

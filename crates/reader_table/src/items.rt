@@ -274,32 +274,7 @@ static A_TYPE_ALIAS_IN_FILE: [Op; 33] = [
 
 /// type Ident generics (: bounds)? and then a definition and a where clause, ;
 #[rattlefmt::skip]
-static A_TYPE_ALIAS_IN_FOREIGN: [Op; 33] = [
-    Op::Seq(1), Op::Word(Words::Keyword(Keyword::Type)), Op::Seq(2), Op::Called(Part::Name), Op::Word(Words::Ident),
-    Op::Seq(2), Op::Called(Part::Generics), Op::Ref(Kind::Generics), Op::Seq(2), Op::Called(Part::Bounds),
-    Op::Ref(Kind::BoundsColon), Op::Seq(20), Op::Called(Part::Value),
-    Op::Alt(Test::Sees(Look::Word(Words::Keyword(Keyword::Where))), 9), Op::Seq(2), Op::Called(Part::Where),
-    Op::Ref(Kind::Where), Op::Alt(Test::Sees(Look::Mark(Sign::Eq)), 4), Op::Seq(1), Op::Mark(Sign::Eq),
-    Op::Called(Part::Type), Op::Ref(Kind::AType(Plus::WithPlus)), Op::Nothing, Op::Seq(6),
-    Op::Alt(Test::Sees(Look::Mark(Sign::Eq)), 4), Op::Seq(1), Op::Mark(Sign::Eq), Op::Called(Part::Type),
-    Op::Ref(Kind::AType(Plus::WithPlus)), Op::Nothing, Op::Called(Part::Where), Op::Ref(Kind::Where),
-    Op::Mark(Sign::Semi),
-];
-
-/// type Ident generics (: bounds)? and then a definition and a where clause, ;
-#[rattlefmt::skip]
 static A_TYPE_ALIAS_IN_TRAIT: [Op; 23] = [
-    Op::Seq(1), Op::Word(Words::Keyword(Keyword::Type)), Op::Seq(2), Op::Called(Part::Name), Op::Word(Words::Ident),
-    Op::Seq(2), Op::Called(Part::Generics), Op::Ref(Kind::Generics), Op::Seq(2), Op::Called(Part::Bounds),
-    Op::Ref(Kind::BoundsColon), Op::Seq(10), Op::Called(Part::Value), Op::Seq(6),
-    Op::Alt(Test::Sees(Look::Mark(Sign::Eq)), 4), Op::Seq(1), Op::Mark(Sign::Eq), Op::Called(Part::Type),
-    Op::Ref(Kind::AType(Plus::WithPlus)), Op::Nothing, Op::Called(Part::Where), Op::Ref(Kind::Where),
-    Op::Mark(Sign::Semi),
-];
-
-/// type Ident generics (: bounds)? and then a definition and a where clause, ;
-#[rattlefmt::skip]
-static A_TYPE_ALIAS_IN_IMPL: [Op; 23] = [
     Op::Seq(1), Op::Word(Words::Keyword(Keyword::Type)), Op::Seq(2), Op::Called(Part::Name), Op::Word(Words::Ident),
     Op::Seq(2), Op::Called(Part::Generics), Op::Ref(Kind::Generics), Op::Seq(2), Op::Called(Part::Bounds),
     Op::Ref(Kind::BoundsColon), Op::Seq(10), Op::Called(Part::Value), Op::Seq(6),
@@ -313,9 +288,9 @@ pub(crate) fn a_type_alias(place: Place) -> &'static [Op]
 {
     match place {
         Place::InFile => &A_TYPE_ALIAS_IN_FILE,
-        Place::InForeign => &A_TYPE_ALIAS_IN_FOREIGN,
+        Place::InForeign => &A_TYPE_ALIAS_IN_FILE,
         Place::InTrait => &A_TYPE_ALIAS_IN_TRAIT,
-        Place::InImpl => &A_TYPE_ALIAS_IN_IMPL,
+        Place::InImpl => &A_TYPE_ALIAS_IN_TRAIT,
     }
 }
 
@@ -339,31 +314,13 @@ static ITEM_MACRO_IN_FOREIGN: [Op; 16] = [
     Op::Group(Delimiter::Bracket), Op::Raw, Op::Mark(Sign::Semi),
 ];
 
-/// Path ! name? group, with ; unless it has braces
-#[rattlefmt::skip]
-static ITEM_MACRO_IN_TRAIT: [Op; 16] = [
-    Op::Seq(1), Op::Ref(Kind::Path(Style::InModule)), Op::Seq(1), Op::Mark(Sign::Not), Op::Seq(1), Op::Nothing,
-    Op::Alt(Test::Sees(Look::Opens(Delimiter::Brace)), 2), Op::Group(Delimiter::Brace), Op::Raw, Op::Seq(5),
-    Op::Alt(Test::Sees(Look::Opens(Delimiter::Parenthesis)), 2), Op::Group(Delimiter::Parenthesis), Op::Raw,
-    Op::Group(Delimiter::Bracket), Op::Raw, Op::Mark(Sign::Semi),
-];
-
-/// Path ! name? group, with ; unless it has braces
-#[rattlefmt::skip]
-static ITEM_MACRO_IN_IMPL: [Op; 16] = [
-    Op::Seq(1), Op::Ref(Kind::Path(Style::InModule)), Op::Seq(1), Op::Mark(Sign::Not), Op::Seq(1), Op::Nothing,
-    Op::Alt(Test::Sees(Look::Opens(Delimiter::Brace)), 2), Op::Group(Delimiter::Brace), Op::Raw, Op::Seq(5),
-    Op::Alt(Test::Sees(Look::Opens(Delimiter::Parenthesis)), 2), Op::Group(Delimiter::Parenthesis), Op::Raw,
-    Op::Group(Delimiter::Bracket), Op::Raw, Op::Mark(Sign::Semi),
-];
-
 pub(crate) fn item_macro(place: Place) -> &'static [Op]
     ensures { gram_of result.now ≡ table (kind_of (kinds.ItemMacro place)) }
 {
     match place {
         Place::InFile => &ITEM_MACRO_IN_FILE,
         Place::InForeign => &ITEM_MACRO_IN_FOREIGN,
-        Place::InTrait => &ITEM_MACRO_IN_TRAIT,
-        Place::InImpl => &ITEM_MACRO_IN_IMPL,
+        Place::InTrait => &ITEM_MACRO_IN_FOREIGN,
+        Place::InImpl => &ITEM_MACRO_IN_FOREIGN,
     }
 }

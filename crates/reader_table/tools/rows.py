@@ -516,8 +516,14 @@ def answers(function, uses_, goals, before=()):
     write(f'proofs/{function}/Answers.antt', '\n'.join(head + body))
 
 
-def choice(module, name, parameter):
-    """The function that answers the entry of a kind that has a parameter."""
+def named_once(name, steps):
+    """The name of each value's row: a row that several values have is named by the first of them."""
+    first = {}
+    return {value: snake(name + first.setdefault(tuple(row), value)) for value, row in steps.items()}
+
+
+def choice(module, name, parameter, names):
+    """The function that answers the entry of a kind that has a parameter, by the name of each value's row."""
     given = parameter.lower()
     answers(f'{module}/{snake(name).lower()}', [
         'use Rattle.std.proofs.Common.{sym, ap}', 'use Rattle.syn_grammar.specs.Table.{table}',
@@ -526,7 +532,7 @@ def choice(module, name, parameter):
         'use Rattle.reader_table.specs.declared.kind.Kind.TheVariants as kinds'],
         [(v, 'table', f'sym (ap (λ (p : {parameter}). table (kind_of (kinds.{name} p))) c.in-{v}.is)')
          for v in PARAMETERS[parameter]])
-    arms = [f'        {parameter}::{v} => &{snake(name + v)},' for v in PARAMETERS[parameter]]
+    arms = [f'        {parameter}::{v} => &{names[v]},' for v in PARAMETERS[parameter]]
     return '\n'.join([f"pub(crate) fn {snake(name).lower()}({given}: {parameter}) -> &'static [Op]",
                       f'    ensures {{ gram_of result.now ≡ table (kind_of (kinds.{name} {given})) }}',
                       '{', f'    match {given} {{', *arms, '    }', '}', ''])
@@ -540,15 +546,16 @@ def write_rows(rows):
     for name, parameter in kinds(os.path.join(CRATES, 'syn_grammar', 'specs', 'Kind.antt')):
         module, words_ = home[name]
         module = 'Functions' if name in OF_FUNCTIONS else module
-        values = PARAMETERS[parameter] if parameter else [None]
         doc = wrapped('///', rule(name, words_))
-        for v in values:
-            kind = (name, (v,)) if v else (name,)
-            row = static(snake(name + (v or '')), 'Op', rows.ops(table(kind), kind))
-            bodies[module].append('\n'.join(doc + [row if v else f'pub(crate) {row}']))
+        of = {v: (name, (v,)) if v else (name,) for v in (PARAMETERS[parameter] if parameter else [''])}
+        steps = {v: rows.ops(table(kind), kind) for v, kind in of.items()}
+        names = named_once(name, steps)
+        for own, ops in {names[v]: steps[v] for v in of}.items():
+            row = static(own, 'Op', ops)
+            bodies[module].append('\n'.join(doc + [row if parameter else f'pub(crate) {row}']))
         if parameter:
             given = parameter.lower()
-            bodies[module].append(choice(module.lower(), name, parameter))
+            bodies[module].append(choice(module.lower(), name, parameter, names))
             arms.append(f'Kind::{name}({given}) => {module.lower()}::{snake(name).lower()}({given}),')
         else:
             arms.append(f'Kind::{name} => &{module.lower()}::{snake(name)},')
@@ -640,12 +647,13 @@ def write_entry(arms):
 def write_forms(rows):
     body, arms = [], {'fronts': [], 'backs': []}
     for which in arms:
+        steps = {}
         for value in PARAMETERS['Position']:
             cases = items_of(rows.world.get(SPECS + 'Forms', which)((value,)))
-            steps = [f'Case {{ kind: {kind_code(c[1])}, look: {rows.look(c[2])} }}' for c in cases]
-            name = f'{which.upper()}_{snake(value)}'
-            body.append(static(name, 'Case', steps))
-            arms[which].append(f'        Position::{value} => &{name},')
+            steps[value] = [f'Case {{ kind: {kind_code(c[1])}, look: {rows.look(c[2])} }}' for c in cases]
+        names = named_once(which.capitalize(), steps)
+        body += [static(own, 'Case', row) for own, row in {names[v]: steps[v] for v in steps}.items()]
+        arms[which] += [f'        Position::{value} => &{own},' for value, own in names.items()]
     foot = []
     for which, words_ in (('fronts', 'The forms that begin in a position, in the order in which they are looked for.'),
                           ('backs', 'The forms whose left operand stands before them in a position, in their order.')):

@@ -3,19 +3,11 @@ use Rattle.std.specs.Prelude.{ℕ, Bool, false, ◌==◌, ◌||◌, List, [], �
 use Rattle.std.specs.List.{list_any}
 use Rattle.std.specs.Str.{bytes_eq}
 use denote.Ref.{Bor}
+use Rattle.rust_leaf.specs.Keywords.{keywords}
 
--- the words of the keywords: first the 51 that are no names, by the alphabet, and then those that are names too
+-- the words of the keywords: first the 51 that are no names, and then those that are names too
 abbrev pub words : List (List ℕ)
-words =
-    codes "abstract" ∷ codes "as" ∷ codes "async" ∷ codes "await" ∷ codes "become" ∷ codes "box" ∷
-    codes "break" ∷ codes "const" ∷ codes "continue" ∷ codes "crate" ∷ codes "do" ∷ codes "dyn" ∷ codes "else" ∷
-    codes "enum" ∷ codes "extern" ∷ codes "false" ∷ codes "final" ∷ codes "fn" ∷ codes "for" ∷ codes "if" ∷
-    codes "impl" ∷ codes "in" ∷ codes "let" ∷ codes "loop" ∷ codes "macro" ∷ codes "match" ∷ codes "mod" ∷
-    codes "move" ∷ codes "mut" ∷ codes "override" ∷ codes "priv" ∷ codes "pub" ∷ codes "ref" ∷ codes "return" ∷
-    codes "Self" ∷ codes "self" ∷ codes "static" ∷ codes "struct" ∷ codes "super" ∷ codes "trait" ∷
-    codes "true" ∷ codes "try" ∷ codes "type" ∷ codes "typeof" ∷ codes "unsafe" ∷ codes "unsized" ∷
-    codes "use" ∷ codes "virtual" ∷ codes "where" ∷ codes "while" ∷ codes "yield" ∷ codes "auto" ∷
-    codes "default" ∷ codes "raw" ∷ codes "safe" ∷ codes "union" ∷ []
+words = keywords ++ codes "auto" ∷ codes "default" ∷ codes "raw" ∷ codes "safe" ∷ codes "union" ∷ []
 
 -- two texts have the same characters
 abbrev pub same_text : List ℕ → List ℕ → Bool
@@ -23,7 +15,7 @@ same_text cs ds = bytes_eq cs ds
 
 -- no name: _, or one of the first 51 words
 unfoldable pub kept_words : List (List ℕ)
-kept_words = take 51 words
+kept_words = keywords
 
 unfoldable pub is_reserved : List ℕ → Bool
 is_reserved cs = same_text (codes "_") cs || list_any (λ word. same_text word cs) kept_words

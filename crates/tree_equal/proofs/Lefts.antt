@@ -9,13 +9,13 @@ use Rattle.syn_grammar.specs.Tree.{Tree}
 use Rattle.reader_tree.specs.declared.tree.Element.{Element}
 use Rattle.reader_tree.specs.Forms.{elements, ending, seconds, turns}
 use Rattle.reader_tree.specs.Size.{node_count}
-use Rattle.tree_equal.specs.Rest.{IsLeft, both_count}
+use Rattle.tree_equal.specs.Rest.{Decides, both_count}
 use Rattle.tree_equal.specs.declared.rest.Rest.{Rest}
 use Rattle.tree_equal.specs.declared.rest.Rest.TheVariants as rest
 
 -- what is left of two trees is left of two others that are one exactly if these are, and no smaller
-pub carried : (a b c d : Tree) → ((c ≡ d) ↔ (a ≡ b)) → both_count a b ≤ both_count c d → (r : Rest) → IsLeft a b r
-    → IsLeft c d r
+pub carried : (a b c d : Tree) → ((c ≡ d) ↔ (a ≡ b)) → both_count a b ≤ both_count c d → (r : Rest) → Decides a b r
+    → Decides c d r
 carried a b c d e s (rest.Told same) h = (λ t. e.1 (h.0 t), λ f. h.1 (e.0 f))
 carried a b c d e s (rest.One x y) h = ((λ f. h.0.0 (e.0 f), λ f. e.1 (h.0.1 f)), omega (arith, h.1))
 carried a b c d e s (rest.Two x y u v) h = ((λ f. h.0.0 (e.0 f), λ f. e.1 (h.0.1 f)), omega (arith, h.1))
@@ -58,7 +58,7 @@ no_first (suc n) zero x y h e = absurd (omega arith)
 no_first (suc n) (suc m) x y h e = no_first n m x y (omega arith) cc
 
 pub first_left : (n m : ℕ) (x y : Bor Tree) (b : Tree) → seconds m (t.First y.now) ≡ b → n ≡ m
-    → IsLeft (seconds n (t.First x.now)) b (rest.One x y)
+    → Decides (seconds n (t.First x.now)) b (rest.One x y)
 first_left n m x y b v e = (
   (λ d. (one_first n m x.now y.now (d ∙ sym v)).1, λ d. ap₂ (λ k z. seconds k (t.First z)) e d ∙ v),
   omega (arith, count_seconds n (t.First x.now), count_seconds m (t.First y.now), ap node_count v),
@@ -68,7 +68,7 @@ pub first_other : (n m : ℕ) (x y b : Tree) → seconds m (t.First y) ≡ b →
 first_other n m x y b v h d = h (one_first n m x y (d ∙ sym v)).0
 
 pub second_left : (n m : ℕ) (x y : Bor Tree) (b : Tree) → t.Second (seconds m y.now) ≡ b → n ≡ m
-    → IsLeft (t.Second (seconds n x.now)) b (rest.One x y)
+    → Decides (t.Second (seconds n x.now)) b (rest.One x y)
 second_left n m x y b v e = (
   (
     λ d. one_second (suc m) x.now y.now (ap (λ k. seconds (suc k) x.now) (sym e) ∙ d ∙ sym v),
@@ -96,12 +96,12 @@ behind_count n m x y b h v = omega (
 )
 
 pub first_behind : (n m : ℕ) (x y b : Tree) (r : Rest) → m < n → t.Second (seconds m y) ≡ b
-    → IsLeft (seconds (n - m - 1) (t.First x)) y r → IsLeft (seconds n (t.First x)) b r
+    → Decides (seconds (n - m - 1) (t.First x)) y r → Decides (seconds n (t.First x)) b r
 first_behind n m x y b r h v i = carried (seconds (n - m - 1) (t.First x)) y (seconds n (t.First x)) b
     (behind n m (t.First x) y b h v) (behind_count n m (t.First x) y b h v) r i
 
 pub first_before : (n m : ℕ) (x y b : Tree) (r : Rest) → n < m → seconds m (t.First y) ≡ b
-    → IsLeft (seconds (m - n - 1) (t.First y)) x r → IsLeft (t.Second (seconds n x)) b r
+    → Decides (seconds (m - n - 1) (t.First y)) x r → Decides (t.Second (seconds n x)) b r
 first_before n m x y b r h v i =
     let e = behind m n (t.First y) x (t.Second (seconds n x)) h refl in
     let s = behind_count m n (t.First y) x (t.Second (seconds n x)) h refl in
@@ -109,20 +109,20 @@ first_before n m x y b r h v i =
     (λ d. e.0 (v ∙ sym d), λ d. sym (e.1 d) ∙ v) (omega (arith, s, ap node_count v)) r i
 
 pub second_behind : (n m : ℕ) (x y b : Tree) (r : Rest) → m < n → t.Second (seconds m y) ≡ b
-    → IsLeft (t.Second (seconds (n - m - 1) x)) y r → IsLeft (t.Second (seconds n x)) b r
+    → Decides (t.Second (seconds (n - m - 1) x)) y r → Decides (t.Second (seconds n x)) b r
 second_behind n m x y b r h v i =
-    let f : IsLeft (seconds (n - m - 1) (t.Second x)) y r =
-    subst (λ z. IsLeft z y r) (sym (second_last (n - m - 1) x)) i in
-    subst (λ z. IsLeft z b r) (second_last n x) (carried (seconds (n - m - 1) (t.Second x)) y (seconds n (t.Second x)) b
+    let f : Decides (seconds (n - m - 1) (t.Second x)) y r =
+    subst (λ z. Decides z y r) (sym (second_last (n - m - 1) x)) i in
+    subst (λ z. Decides z b r) (second_last n x) (carried (seconds (n - m - 1) (t.Second x)) y (seconds n (t.Second x)) b
     (behind n m (t.Second x) y b h v) (behind_count n m (t.Second x) y b h v) r f)
 
-turned : (a b : Tree) (r : Rest) → IsLeft a b r → IsLeft b a r
+turned : (a b : Tree) (r : Rest) → Decides a b r → Decides b a r
 turned a b r h = carried a b b a (λ d. sym d, λ d. sym d) (omega arith) r h
 
 pub second_before : (n m : ℕ) (x y b : Tree) (r : Rest) → n < m → t.Second (seconds m y) ≡ b
-    → IsLeft (t.Second (seconds (m - n - 1) y)) x r → IsLeft (t.Second (seconds n x)) b r
+    → Decides (t.Second (seconds (m - n - 1) y)) x r → Decides (t.Second (seconds n x)) b r
 second_before n m x y b r h v i =
-    subst (λ z. IsLeft (t.Second (seconds n x)) z r) v
+    subst (λ z. Decides (t.Second (seconds n x)) z r) v
     (turned (t.Second (seconds m y)) (t.Second (seconds n x)) r
     (second_behind m n y x (t.Second (seconds n x)) r h refl i))
 

@@ -1,6 +1,6 @@
 //! What is left to be compared of two trees, once what they are made of has been looked at.
 
-ghost use Rattle.tree_equal.specs.Rest.{IsLeft};
+ghost use Rattle.tree_equal.specs.Rest.{Decides};
 ghost use Rattle.tree_equal.specs.declared.rest.Rest.TheVariants as rest;
 ghost use Rattle.reader_table.specs.Kinds.{kind_of};
 ghost use Rattle.reader_table.specs.Ops.{separator_of};
@@ -116,7 +116,7 @@ fn is_nil(tree: &Tree<'_>) -> bool
 
 // Of a pair and a tree.
 fn pair<'t, 'a>(two: &'t Two<'a>, tree: &'t Tree<'a>) -> Rest<'t, 'a>
-    ensures { IsLeft (t.Pair two.now.front two.now.back) tree.now result }
+    ensures { Decides (t.Pair two.now.front two.now.back) tree.now result }
 {
     match &tree.form {
         Form::Pair(other) => Rest::Two(&two.front, &other.front, &two.back, &other.back),
@@ -126,7 +126,7 @@ fn pair<'t, 'a>(two: &'t Two<'a>, tree: &'t Tree<'a>) -> Rest<'t, 'a>
 
 // Of a choice that is the first behind so many seconds, and a tree.
 fn first<'t, 'a>(depth: u32, inner: &'t Tree<'a>, tree: &'t Tree<'a>) -> Rest<'t, 'a>
-    ensures { IsLeft (seconds depth (t.First inner.now)) tree.now result }
+    ensures { Decides (seconds depth (t.First inner.now)) tree.now result }
 {
     match &tree.form {
         Form::First(other, y) => {
@@ -149,7 +149,7 @@ fn first<'t, 'a>(depth: u32, inner: &'t Tree<'a>, tree: &'t Tree<'a>) -> Rest<'t
 
 // Of a choice that is the second, and behind it so many seconds, and a tree.
 fn second<'t, 'a>(depth: u32, inner: &'t Tree<'a>, tree: &'t Tree<'a>) -> Rest<'t, 'a>
-    ensures { IsLeft (t.Second (seconds depth inner.now)) tree.now result }
+    ensures { Decides (t.Second (seconds depth inner.now)) tree.now result }
 {
     match &tree.form {
         Form::First(other, y) => {
@@ -197,7 +197,7 @@ fn no_turn<'t, 'a>() -> &'t [Tree<'a>]
 
 // Of turns and a tree.
 fn turns<'t, 'a>(turns: &'t [Tree<'a>], tree: &'t Tree<'a>) -> Rest<'t, 'a>
-    ensures { IsLeft (in_turn turns.now) tree.now result }
+    ensures { Decides (in_turn turns.now) tree.now result }
 {
     match &tree.form {
         Form::End => Rest::Turns(turns, no_turn()),
@@ -209,7 +209,7 @@ fn turns<'t, 'a>(turns: &'t [Tree<'a>], tree: &'t Tree<'a>) -> Rest<'t, 'a>
 
 // Of elements and a tree.
 fn elements<'t, 'a>(list: &'t Separated<'a>, tree: &'t Tree<'a>) -> Rest<'t, 'a>
-    ensures { IsLeft (listed (separator_of list.now.separator) list.now.before.now (ending (λ x. x.now) list.now.last))
+    ensures { Decides (listed (separator_of list.now.separator) list.now.before.now (ending (λ x. x.now) list.now.last))
         tree.now result }
 {
     match &tree.form {
@@ -228,7 +228,7 @@ fn elements<'t, 'a>(list: &'t Separated<'a>, tree: &'t Tree<'a>) -> Rest<'t, 'a>
 
 // Of a group and a tree.
 fn group<'t, 'a>(delimiter: Delimiter, inner: &'t Tree<'a>, tree: &'t Tree<'a>) -> Rest<'t, 'a>
-    ensures { IsLeft (t.Group delimiter inner.now) tree.now result }
+    ensures { Decides (t.Group delimiter inner.now) tree.now result }
 {
     match &tree.form {
         Form::Group(other, group) => one(same_delimiter(delimiter, *other), inner, &group.inside),
@@ -238,7 +238,7 @@ fn group<'t, 'a>(delimiter: Delimiter, inner: &'t Tree<'a>, tree: &'t Tree<'a>) 
 
 // Of what is no part of the program and a tree.
 fn dropped<'t, 'a>(inner: &'t Tree<'a>, tree: &'t Tree<'a>) -> Rest<'t, 'a>
-    ensures { IsLeft (t.Dropped inner.now) tree.now result }
+    ensures { Decides (t.Dropped inner.now) tree.now result }
 {
     match &tree.form {
         Form::Dropped(y) => Rest::One(inner, y),
@@ -248,7 +248,7 @@ fn dropped<'t, 'a>(inner: &'t Tree<'a>, tree: &'t Tree<'a>) -> Rest<'t, 'a>
 
 // Of a part and a tree.
 fn called<'t, 'a>(part: Part, inner: &'t Tree<'a>, tree: &'t Tree<'a>) -> Rest<'t, 'a>
-    ensures { IsLeft (t.Called (part_of part) inner.now) tree.now result }
+    ensures { Decides (t.Called (part_of part) inner.now) tree.now result }
 {
     match &tree.form {
         Form::Called(other, y) => one(same_part(part, *other), inner, y),
@@ -258,7 +258,7 @@ fn called<'t, 'a>(part: Part, inner: &'t Tree<'a>, tree: &'t Tree<'a>) -> Rest<'
 
 // Of what is kept as tokens and a tree.
 fn verbatim<'t, 'a>(inner: &'t Tree<'a>, tree: &'t Tree<'a>) -> Rest<'t, 'a>
-    ensures { IsLeft (t.Verbatim inner.now) tree.now result }
+    ensures { Decides (t.Verbatim inner.now) tree.now result }
 {
     match &tree.form {
         Form::Verbatim(y) => Rest::One(inner, y),
@@ -268,7 +268,7 @@ fn verbatim<'t, 'a>(inner: &'t Tree<'a>, tree: &'t Tree<'a>) -> Rest<'t, 'a>
 
 // Of a node and a tree.
 fn node<'t, 'a>(kind: Kind, inner: &'t Tree<'a>, tree: &'t Tree<'a>) -> Rest<'t, 'a>
-    ensures { IsLeft (t.Node (kind_of kind) inner.now) tree.now result }
+    ensures { Decides (t.Node (kind_of kind) inner.now) tree.now result }
 {
     match &tree.form {
         Form::Node(other, y) => one(same_kind(kind, *other), inner, y),
@@ -278,7 +278,7 @@ fn node<'t, 'a>(kind: Kind, inner: &'t Tree<'a>, tree: &'t Tree<'a>) -> Rest<'t,
 
 // Of an expression and a tree.
 fn whole<'t, 'a>(inner: &'t Tree<'a>, tree: &'t Tree<'a>) -> Rest<'t, 'a>
-    ensures { IsLeft (t.Whole inner.now) tree.now result }
+    ensures { Decides (t.Whole inner.now) tree.now result }
 {
     match &tree.form {
         Form::Whole(y) => Rest::One(inner, y),
@@ -288,7 +288,7 @@ fn whole<'t, 'a>(inner: &'t Tree<'a>, tree: &'t Tree<'a>) -> Rest<'t, 'a>
 
 // Of a form without operands and a tree.
 fn alone<'t, 'a>(kind: Kind, inner: &'t Tree<'a>, tree: &'t Tree<'a>) -> Rest<'t, 'a>
-    ensures { IsLeft (t.Alone (kind_of kind) inner.now) tree.now result }
+    ensures { Decides (t.Alone (kind_of kind) inner.now) tree.now result }
 {
     match &tree.form {
         Form::Alone(other, y) => one(same_kind(kind, *other), inner, y),
@@ -298,7 +298,7 @@ fn alone<'t, 'a>(kind: Kind, inner: &'t Tree<'a>, tree: &'t Tree<'a>) -> Rest<'t
 
 // Of a form with an operand behind it and a tree.
 fn front<'t, 'a>(kind: Kind, two: &'t Two<'a>, tree: &'t Tree<'a>) -> Rest<'t, 'a>
-    ensures { IsLeft (t.Front (kind_of kind) two.now.front two.now.back) tree.now result }
+    ensures { Decides (t.Front (kind_of kind) two.now.front two.now.back) tree.now result }
 {
     match &tree.form {
         Form::Front(other, y) => {
@@ -314,7 +314,7 @@ fn front<'t, 'a>(kind: Kind, two: &'t Two<'a>, tree: &'t Tree<'a>) -> Rest<'t, '
 
 // Of a form with an operand before it and a tree.
 fn back<'t, 'a>(kind: Kind, two: &'t Two<'a>, tree: &'t Tree<'a>) -> Rest<'t, 'a>
-    ensures { IsLeft (t.Back two.now.front (kind_of kind) two.now.back) tree.now result }
+    ensures { Decides (t.Back two.now.front (kind_of kind) two.now.back) tree.now result }
 {
     match &tree.form {
         Form::Back(other, y) => {
@@ -330,7 +330,7 @@ fn back<'t, 'a>(kind: Kind, two: &'t Two<'a>, tree: &'t Tree<'a>) -> Rest<'t, 'a
 
 // Of a form with an operand on either side and a tree.
 fn infix<'t, 'a>(kind: Kind, three: &'t Three<'a>, tree: &'t Tree<'a>) -> Rest<'t, 'a>
-    ensures { IsLeft (t.Infix three.now.left (kind_of kind) three.now.own three.now.right) tree.now result }
+    ensures { Decides (t.Infix three.now.left (kind_of kind) three.now.own three.now.right) tree.now result }
 {
     match &tree.form {
         Form::Infix(other, y) => {
@@ -353,7 +353,7 @@ fn infix<'t, 'a>(kind: Kind, three: &'t Three<'a>, tree: &'t Tree<'a>) -> Rest<'
 
 /// What is left to be compared of two trees.
 pub(crate) fn left<'t, 'a>(a: &'t Tree<'a>, b: &'t Tree<'a>) -> Rest<'t, 'a>
-    ensures { IsLeft a.now b.now result }
+    ensures { Decides a.now b.now result }
 {
     match &a.form {
         Form::Word(ident) => Rest::Told(is_word(ident, b)),
