@@ -1,5 +1,6 @@
 pub mod Mark
 pub mod Kept
+pub mod Keywords
 pub mod LeafText
 pub mod Leaf
 pub mod Identifier
