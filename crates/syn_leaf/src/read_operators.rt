@@ -15,6 +15,18 @@ use syn_error::fault::ParseFault;
 use syn_kinds::token;
 use syn_parse::{Parse, ParseBuffer};
 
+// The first of some kinds that stands, as the operator that is written so, or none. What is read is returned.
+macro_rules! first_of {
+    ($input:ident, $($kind:ident => $operator:ident,)+) => {{
+        $(
+            if $input.peek::<token::$kind>() {
+                return Ok(Some(BinOp::$operator($input.parse::<token::$kind>()?)));
+            }
+        )+
+        Ok(None)
+    }};
+}
+
 // An operator of three marks, if one stands there.
 #[tactic(auto, unfolding(syn_kinds::specs::Table::marks, syn_kinds::specs::Table::sign))]
 fn of_three(input: &mut ParseBuffer<'_>) -> Result<Option<BinOp>, ParseFault>
@@ -27,13 +39,11 @@ fn of_three(input: &mut ParseBuffer<'_>) -> Result<Option<BinOp>, ParseFault>
     ensures noted { OnOk result (input.new.noted ≡ input.old.noted) }
     ensures onward { IsOnward input.old input.new }
 {
-    if input.peek::<token::ShlEq>() {
-        return Ok(Some(BinOp::ShlAssign(input.parse::<token::ShlEq>()?)));
-    }
-    if input.peek::<token::ShrEq>() {
-        return Ok(Some(BinOp::ShrAssign(input.parse::<token::ShrEq>()?)));
-    }
-    Ok(None)
+    first_of!(
+        input,
+        ShlEq => ShlAssign,
+        ShrEq => ShrAssign,
+    )
 }
 
 // An operator of two marks that assigns a value, if one stands there.
@@ -48,31 +58,17 @@ fn assigning(input: &mut ParseBuffer<'_>) -> Result<Option<BinOp>, ParseFault>
     ensures noted { OnOk result (input.new.noted ≡ input.old.noted) }
     ensures onward { IsOnward input.old input.new }
 {
-    if input.peek::<token::PlusEq>() {
-        return Ok(Some(BinOp::AddAssign(input.parse::<token::PlusEq>()?)));
-    }
-    if input.peek::<token::MinusEq>() {
-        return Ok(Some(BinOp::SubAssign(input.parse::<token::MinusEq>()?)));
-    }
-    if input.peek::<token::StarEq>() {
-        return Ok(Some(BinOp::MulAssign(input.parse::<token::StarEq>()?)));
-    }
-    if input.peek::<token::SlashEq>() {
-        return Ok(Some(BinOp::DivAssign(input.parse::<token::SlashEq>()?)));
-    }
-    if input.peek::<token::PercentEq>() {
-        return Ok(Some(BinOp::RemAssign(input.parse::<token::PercentEq>()?)));
-    }
-    if input.peek::<token::CaretEq>() {
-        return Ok(Some(BinOp::BitXorAssign(input.parse::<token::CaretEq>()?)));
-    }
-    if input.peek::<token::AndEq>() {
-        return Ok(Some(BinOp::BitAndAssign(input.parse::<token::AndEq>()?)));
-    }
-    if input.peek::<token::OrEq>() {
-        return Ok(Some(BinOp::BitOrAssign(input.parse::<token::OrEq>()?)));
-    }
-    Ok(None)
+    first_of!(
+        input,
+        PlusEq => AddAssign,
+        MinusEq => SubAssign,
+        StarEq => MulAssign,
+        SlashEq => DivAssign,
+        PercentEq => RemAssign,
+        CaretEq => BitXorAssign,
+        AndEq => BitAndAssign,
+        OrEq => BitOrAssign,
+    )
 }
 
 // An operator of two marks that assigns none, if one stands there.
@@ -87,31 +83,17 @@ fn of_two(input: &mut ParseBuffer<'_>) -> Result<Option<BinOp>, ParseFault>
     ensures noted { OnOk result (input.new.noted ≡ input.old.noted) }
     ensures onward { IsOnward input.old input.new }
 {
-    if input.peek::<token::AndAnd>() {
-        return Ok(Some(BinOp::And(input.parse::<token::AndAnd>()?)));
-    }
-    if input.peek::<token::OrOr>() {
-        return Ok(Some(BinOp::Or(input.parse::<token::OrOr>()?)));
-    }
-    if input.peek::<token::Shl>() {
-        return Ok(Some(BinOp::Shl(input.parse::<token::Shl>()?)));
-    }
-    if input.peek::<token::Shr>() {
-        return Ok(Some(BinOp::Shr(input.parse::<token::Shr>()?)));
-    }
-    if input.peek::<token::EqEq>() {
-        return Ok(Some(BinOp::Eq(input.parse::<token::EqEq>()?)));
-    }
-    if input.peek::<token::Le>() {
-        return Ok(Some(BinOp::Le(input.parse::<token::Le>()?)));
-    }
-    if input.peek::<token::Ne>() {
-        return Ok(Some(BinOp::Ne(input.parse::<token::Ne>()?)));
-    }
-    if input.peek::<token::Ge>() {
-        return Ok(Some(BinOp::Ge(input.parse::<token::Ge>()?)));
-    }
-    Ok(None)
+    first_of!(
+        input,
+        AndAnd => And,
+        OrOr => Or,
+        Shl => Shl,
+        Shr => Shr,
+        EqEq => Eq,
+        Le => Le,
+        Ne => Ne,
+        Ge => Ge,
+    )
 }
 
 // An operator of one mark, if one stands there.
@@ -126,37 +108,19 @@ fn of_one(input: &mut ParseBuffer<'_>) -> Result<Option<BinOp>, ParseFault>
     ensures noted { OnOk result (input.new.noted ≡ input.old.noted) }
     ensures onward { IsOnward input.old input.new }
 {
-    if input.peek::<token::Plus>() {
-        return Ok(Some(BinOp::Add(input.parse::<token::Plus>()?)));
-    }
-    if input.peek::<token::Minus>() {
-        return Ok(Some(BinOp::Sub(input.parse::<token::Minus>()?)));
-    }
-    if input.peek::<token::Star>() {
-        return Ok(Some(BinOp::Mul(input.parse::<token::Star>()?)));
-    }
-    if input.peek::<token::Slash>() {
-        return Ok(Some(BinOp::Div(input.parse::<token::Slash>()?)));
-    }
-    if input.peek::<token::Percent>() {
-        return Ok(Some(BinOp::Rem(input.parse::<token::Percent>()?)));
-    }
-    if input.peek::<token::Caret>() {
-        return Ok(Some(BinOp::BitXor(input.parse::<token::Caret>()?)));
-    }
-    if input.peek::<token::And>() {
-        return Ok(Some(BinOp::BitAnd(input.parse::<token::And>()?)));
-    }
-    if input.peek::<token::Or>() {
-        return Ok(Some(BinOp::BitOr(input.parse::<token::Or>()?)));
-    }
-    if input.peek::<token::Lt>() {
-        return Ok(Some(BinOp::Lt(input.parse::<token::Lt>()?)));
-    }
-    if input.peek::<token::Gt>() {
-        return Ok(Some(BinOp::Gt(input.parse::<token::Gt>()?)));
-    }
-    Ok(None)
+    first_of!(
+        input,
+        Plus => Add,
+        Minus => Sub,
+        Star => Mul,
+        Slash => Div,
+        Percent => Rem,
+        Caret => BitXor,
+        And => BitAnd,
+        Or => BitOr,
+        Lt => Lt,
+        Gt => Gt,
+    )
 }
 
 /// The longest operator that stands there.
