@@ -3,7 +3,8 @@ writes something of each entry reads it by this."""
 import os
 import re
 
-SPECS = os.path.join(os.path.dirname(os.path.dirname(os.path.abspath(__file__))), 'crates', 'syn_grammar', 'specs')
+CRATES = os.path.join(os.path.dirname(os.path.dirname(os.path.abspath(__file__))), 'crates')
+SPECS = os.path.join(CRATES, 'syn_grammar', 'specs')
 TOKEN = re.compile(r'"[^"]*"|[()▸∷∶\[\]]|[^\s()▸∷∶"\[\]]+')
 INFIX = {'▸': 20, '∶': 21, 'then': 30, 'or': 25, '∷': 15}
 
@@ -85,10 +86,10 @@ class Definition:
         self.name, self.type, self.words, self.clauses = name, type_, words, []
 
 
-def definitions(file):
+def definitions(file, specs=SPECS):
     """The definitions of a file, in their order."""
     found, words, current = [], [], None
-    with open(f'{SPECS}/{file}.antt', encoding='utf8') as lines:
+    with open(f'{specs}/{file}.antt', encoding='utf8') as lines:
         text = lines.read()
     for line in [*text[text.index('\nuse '):].split('\n'), '']:
         signature = re.match(r"(?:abbrev|unfoldable) pub ([\w']+) : (.*)", line)
@@ -121,6 +122,7 @@ def parameters():
 
 
 def reserved():
-    """The reserved words."""
-    text = next(it for it in definitions('Words') if it.name == 'reserved').clauses[0][1]
-    return re.findall(r'codes "([^"]*)"', text)
+    """The reserved words: the underscore, and the keywords."""
+    keywords = definitions('Keywords', os.path.join(CRATES, 'rust_leaf', 'specs'))
+    text = next(it for it in keywords if it.name == 'keywords').clauses[0][1]
+    return ['_', *re.findall(r'codes "([^"]*)"', text)]
