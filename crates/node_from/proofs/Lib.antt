@@ -1,3 +1,5 @@
 pub mod Constants
 pub mod Joined
 pub mod Styles
+pub mod Visibilities
+pub mod Strings

@@ -5,11 +5,14 @@
 //! - `segments`: paths and their segments.
 //! - `qualified`: qualified paths.
 //! - `attributes`: attributes.
+//! - `abi`: calling conventions.
 //! - `names`: names, and words in their place.
 //! - `types`: references, pointers, tuples, types in parentheses, `!` and `_`.
+//! - `visibility`: who may name an item.
 //! - `lists`: what makes the elements of lists.
 #![tactic(auto)]
 
+pub mod abi;
 pub mod attributes;
 pub mod exprs;
 pub mod lists;
@@ -18,6 +21,7 @@ pub mod paths;
 pub mod qualified;
 pub mod segments;
 pub mod types;
+pub mod visibility;
 
 ghost use Rattle.node_from.specs.Whats.{IsWhat, made};
 ghost use Rattle.reader_tree.specs.Size.{node_count};
