@@ -3,3 +3,4 @@ pub mod Paths
 pub mod Exprs
 pub mod Attributes
 pub mod Names
+pub mod Bounds

@@ -5,6 +5,7 @@
 //! - `segments`: paths and their segments.
 //! - `qualified`: qualified paths.
 //! - `attributes`: attributes.
+//! - `bounds`: bounds, and the lifetimes that they bind.
 //! - `abi`: calling conventions.
 //! - `names`: names, and words in their place.
 //! - `types`: references, pointers, tuples, types in parentheses, `!` and `_`.
@@ -14,6 +15,7 @@
 
 pub mod abi;
 pub mod attributes;
+pub mod bounds;
 pub mod exprs;
 pub mod lists;
 pub mod names;
