@@ -3,3 +3,4 @@ pub mod Joined
 pub mod Styles
 pub mod Visibilities
 pub mod Strings
+pub mod Chosen

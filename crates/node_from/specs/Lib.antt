@@ -4,3 +4,4 @@ pub mod Exprs
 pub mod Attributes
 pub mod Names
 pub mod Bounds
+pub mod FnPointers

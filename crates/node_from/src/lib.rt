@@ -10,6 +10,7 @@
 //! - `names`: names, and words in their place.
 //! - `types`: references, pointers, tuples, types in parentheses, `!` and `_`.
 //! - `visibility`: who may name an item.
+//! - `fn_pointers`: function pointers, and what functions return.
 //! - `lists`: what makes the elements of lists.
 #![tactic(auto)]
 
@@ -17,6 +18,7 @@ pub mod abi;
 pub mod attributes;
 pub mod bounds;
 pub mod exprs;
+pub mod fn_pointers;
 pub mod lists;
 pub mod names;
 pub mod paths;
