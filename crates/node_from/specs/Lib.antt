@@ -5,3 +5,4 @@ pub mod Attributes
 pub mod Names
 pub mod Bounds
 pub mod FnPointers
+pub mod Types
