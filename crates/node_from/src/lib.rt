@@ -1,23 +1,32 @@
-//! Nodes of trees that were read: some types, arguments of paths, and some expressions.
+//! Nodes of trees that were read: types, paths, attributes, bounds, visibilities, and some expressions.
 //!
 //! - `exprs`: calls, elements, `?`, references, operators, parentheses, tuples and arrays.
 //! - `paths`: arguments of paths.
 //! - `segments`: paths and their segments.
 //! - `qualified`: qualified paths.
+//! - `macros`: calls of macros.
 //! - `attributes`: attributes.
+//! - `bounds`: bounds, and the lifetimes that they bind.
+//! - `abi`: calling conventions.
 //! - `names`: names, and words in their place.
-//! - `types`: references, pointers, tuples, types in parentheses, `!` and `_`.
+//! - `types`: types.
+//! - `visibility`: who may name an item.
+//! - `fn_pointers`: function pointers, and what functions return.
 //! - `lists`: what makes the elements of lists.
 #![tactic(auto)]
 
+pub mod abi;
 pub mod attributes;
+pub mod bounds;
 pub mod exprs;
+pub mod fn_pointers;
 pub mod lists;
 pub mod names;
 pub mod paths;
 pub mod qualified;
 pub mod segments;
 pub mod types;
+pub mod visibility;
 
 ghost use Rattle.node_from.specs.Whats.{IsWhat, made};
 ghost use Rattle.reader_tree.specs.Size.{node_count};
