@@ -12,7 +12,9 @@ use crate::list::{is_empty, list, sum};
 use crate::row;
 use crate::step::absent;
 use crate::to_tree::ToTree;
-use node_paths::bound::{BoundLifetimes, LifetimeParam, TraitBoundModifier};
+use node_paths::bound::{
+    BoundLifetimes, LifetimeParam, TraitBound, TraitBoundModifier, TypeParamBound,
+};
 use reader_table::kind::Kind;
 use reader_table::part::Part;
 use reader_table::word::Sign;
@@ -139,4 +141,78 @@ fn bound_front<'a, E: ToTree>(
             }
         },
     }
+}
+
+impl<E: ToTree> ToTree for TraitBound<E> {
+    ghost tree = { views.trait_bound E.tree };
+
+    fn to_tree<'a>(&'a self, arena: &'a Arena) -> Result<Tree<'a>, AllocError> {
+        let front = bound_front(arena, &self.modifier, &self.lifetimes)?;
+        let both = made::pair(arena, front, self.path.to_tree(arena)?)?;
+        made::node(arena, Kind::TraitPath, both)
+    }
+}
+
+impl<E: ToTree> ToTree for TypeParamBound<E> {
+    ghost tree = { views.type_param_bound E.tree };
+
+    fn to_tree<'a>(&'a self, arena: &'a Arena) -> Result<Tree<'a>, AllocError> {
+        match self {
+            TypeParamBound::Lifetime(lifetime) => {
+                let chosen = made::first(arena, lifetime.to_tree(arena)?)?;
+                made::node(arena, Kind::Bound, chosen)
+            }
+            TypeParamBound::Trait(bound) => {
+                let named = made::called(arena, Part::Path, bound.to_tree(arena)?)?;
+                let chosen = made::second(arena, named)?;
+                made::node(arena, Kind::Bound, chosen)
+            }
+        }
+    }
+}
+
+/// Bounds with `+` between them.
+///
+/// # Errors
+///
+/// Where there is no memory for them.
+pub fn bound_list<'a, E: ToTree>(
+    arena: &'a Arena,
+    list: &'a Punctuated<TypeParamBound<E>, token::Plus>,
+) -> Result<Tree<'a>, AllocError>
+    ensures { IfOk result (λ x. x ≡ views.bound_list E.tree list.now) }
+{
+    made::node(arena, Kind::Bounds, sum(arena, list)?)
+}
+
+/// Bounds behind `dyn` and `impl`.
+///
+/// # Errors
+///
+/// Where there is no memory for them.
+pub fn some_bounds<'a, E: ToTree>(
+    arena: &'a Arena,
+    list: &'a Punctuated<TypeParamBound<E>, token::Plus>,
+) -> Result<Tree<'a>, AllocError>
+    ensures { IfOk result (λ x. x ≡ views.some_bounds E.tree list.now) }
+{
+    let judged = made::first(arena, sum(arena, list)?)?;
+    made::node(arena, Kind::SomeBounds, judged)
+}
+
+/// `:` and bounds, of a parameter, a trait or a type, if they are there.
+///
+/// # Errors
+///
+/// Where there is no memory for them.
+pub fn bounds_colon<'a, E: ToTree>(
+    arena: &'a Arena,
+    token: &Option<token::Colon>,
+    list: &'a Punctuated<TypeParamBound<E>, token::Plus>,
+) -> Result<Tree<'a>, AllocError>
+    ensures { IfOk result (λ x. x ≡ views.bounds_colon E.tree token.now list.now) }
+{
+    let bounds = bound_list(arena, list)?;
+    let colon = colon(arena, token, list, bounds)?;
+    made::node(arena, Kind::BoundsColon, colon)
 }

@@ -8,7 +8,7 @@
 //! - `step`: forms of trees, each of its parts; `row`: trees one behind the other, and groups.
 //! - `list`: elements with marks between them, and turns.
 //! - `sight`: what a tree is, where another is made by that.
-//! - `paths`: arguments of paths, and segments; `bounds`: lifetimes with their bounds.
+//! - `paths`: paths, their segments and arguments; `bounds`: bounds, and the lifetimes that they bind.
 //! - `attributes`: attributes, and tokens in what encloses them.
 //! - `types`: slices, arrays, tuples, types in parentheses, `!`, `_`, references and pointers.
 //! - `operators`: the operators of expressions.

@@ -1,4 +1,4 @@
-//! Paths and their arguments as trees.
+//! Paths, their segments and arguments as trees.
 
 ghost use Rattle.node_views.specs.Paths as views;
 ghost use Rattle.node_words.specs.Words as words;
@@ -8,7 +8,7 @@ ghost use Rattle.syn_grammar.specs.Kind as k;
 ghost use Rattle.syn_grammar.specs.Tree as t;
 ghost use Rattle.syn_grammar.specs.Words.{is_path_keyword};
 
-use crate::leaf::{optional_sign, sign};
+use crate::leaf::{optional_sign, sign, sign_or};
 use crate::list::list;
 use crate::row::{self, enclosed, whole};
 use crate::sight::alone_inside;
@@ -16,7 +16,7 @@ use crate::step::absent;
 use crate::to_tree::ToTree;
 use node_paths::path::{
     AngleBracketedGenericArguments, AssocType, GenericArgument, ParenthesizedGenericArguments,
-    PathArguments, PathSegment, ReturnType,
+    Path, PathArguments, PathSegment, ReturnType,
 };
 use reader_table::kind::{Kind, Plus, Style};
 use reader_table::part::Part;
@@ -217,8 +217,8 @@ fn is_bare<E>(arguments: &PathArguments<E>) -> bool
     matches!(arguments, PathArguments::None)
 }
 
-// A name that takes no arguments, and has none.
-fn is_keyword<E>(segment: &PathSegment<E>) -> bool
+/// A name that takes no arguments, and has none.
+pub fn is_keyword<E>(segment: &PathSegment<E>) -> bool
     ensures { result ≡ views.is_keyword segment.now }
 {
     is_path_keyword(&segment.ident) && is_bare(&segment.arguments)
@@ -273,6 +273,75 @@ fn linked<'a, E: ToTree>(
     let behind = made::pair(arena, separator, others)?;
     let all = segment_then(arena, segment, behind)?;
     made::node(arena, Kind::Segments(Style::AtType), all)
+}
+
+/// Segments with `::` between them, of which a missing one is filled in.
+///
+/// # Errors
+///
+/// Where there is no memory for them.
+#[tactic(auto, unfolding(syn_kinds::specs::Table::marks, syn_kinds::specs::Table::sign))]
+pub fn segments<'a, E: ToTree>(
+    arena: &'a Arena,
+    each: &'a [PathSegment<E>],
+    separators: &[token::PathSep],
+) -> Result<Tree<'a>, AllocError>
+    ensures { IfOk result (λ x. x ≡ views.segments E.tree each.now separators.now) }
+{
+    match each {
+        [] => Ok(made::nil()),
+        [segment, others @ ..] => match separators {
+            [separator, rest @ ..] => {
+                let behind = segments(arena, others, rest)?;
+                linked(arena, segment, sign(Sign::PathSep, separator)?, behind)
+            }
+            [] => match others {
+                [] => {
+                    let ended = last_segment(arena, segment)?;
+                    made::node(arena, Kind::Segments(Style::AtType), ended)
+                }
+                [_, ..] => {
+                    let behind = segments(arena, others, separators)?;
+                    let filled = sign_or(Sign::PathSep, &None::<token::PathSep>)?;
+                    linked(arena, segment, filled, behind)
+                }
+            },
+        },
+    }
+}
+
+/// A path: `::` in front, if it is there, and segments.
+///
+/// # Errors
+///
+/// Where there is no memory for it.
+#[tactic(auto, unfolding(syn_kinds::specs::Table::marks, syn_kinds::specs::Table::sign))]
+pub fn path_of<'a, E: ToTree>(
+    arena: &'a Arena,
+    leading: &Option<token::PathSep>,
+    each: &'a [PathSegment<E>],
+    separators: &[token::PathSep],
+) -> Result<Tree<'a>, AllocError>
+    ensures { IfOk result (λ x. x ≡ t.Node (k.Path k.AtType) (t.Pair (words.optional words.mark leading.now)
+        (views.segments E.tree each.now separators.now))) }
+{
+    let leading = optional_sign(arena, Sign::PathSep, leading)?;
+    let both = made::pair(arena, leading, segments(arena, each, separators)?)?;
+    made::node(arena, Kind::Path(Style::AtType), both)
+}
+
+impl<E: ToTree> ToTree for Path<E> {
+    ghost tree = { views.path E.tree };
+
+    fn to_tree<'a>(&'a self, arena: &'a Arena) -> Result<Tree<'a>, AllocError> {
+        let segments = &self.segments;
+        path_of(
+            arena,
+            &self.leading_colon,
+            segments.as_slice(),
+            segments.separators(),
+        )
+    }
 }
 
 // The arguments of a segment by itself.
