@@ -2,7 +2,17 @@
 //!
 //! An expression is its form, behind its attributes.
 //!
+//! - `atom`: expressions that are whole by themselves.
+//! - `call`: calls, and what else stands behind an operand.
 //! - `operator`: operators between two operands or in front of one.
+//! - `jump`: expressions that leave what runs.
+//! - `form`: what is made of an expression's form where a block, a condition or an operand of `else` stands.
+//! - `sight`: what a form is.
 #![tactic(auto)]
 
+pub mod atom;
+pub mod call;
+pub mod form;
+pub mod jump;
 pub mod operator;
+pub mod sight;
