@@ -6,7 +6,7 @@
 //! - `call`: calls, and what else stands behind an operand.
 //! - `operator`: operators between two operands or in front of one.
 //! - `jump`: expressions that leave what runs.
-//! - `form`: what is made of an expression's form where a block, a condition or an operand of `else` stands.
+//! - `form`: what is made of an expression's form where a condition, a statement or a value before `else` stands.
 //! - `sight`: what a form is.
 #![tactic(auto)]
 
