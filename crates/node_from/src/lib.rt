@@ -5,6 +5,7 @@
 //! - `segments`: paths and their segments.
 //! - `qualified`: qualified paths.
 //! - `macros`: calls of macros.
+//! - `macros`: calls of macros.
 //! - `attributes`: attributes.
 //! - `bounds`: bounds, and the lifetimes that they bind.
 //! - `abi`: calling conventions.
@@ -21,6 +22,7 @@ pub mod bounds;
 pub mod exprs;
 pub mod fn_pointers;
 pub mod lists;
+pub mod macros;
 pub mod names;
 pub mod paths;
 pub mod qualified;
