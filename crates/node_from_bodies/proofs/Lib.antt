@@ -1,5 +1,11 @@
+pub mod ArmCommas
+pub mod BlockForms
+pub mod FieldTexts
+pub mod FrontAttributes
+pub mod LetParts
 pub mod LiteralTokens
 pub mod NothingStands
+pub mod ParamForms
 pub mod RestAlone
 pub mod Singles
 pub mod TwoWords

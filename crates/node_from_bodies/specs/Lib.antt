@@ -1,4 +1,9 @@
+pub mod BlockForms
+pub mod BranchParts
 pub mod ExprForms
+pub mod FieldForms
+pub mod Fronts
 pub mod JumpParts
 pub mod Operands
 pub mod PatternParts
+pub mod StatementParts
