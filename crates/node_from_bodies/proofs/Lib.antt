@@ -2,6 +2,7 @@ pub mod ArmCommas
 pub mod BlockForms
 pub mod FieldTexts
 pub mod FrontAttributes
+pub mod GivenForms
 pub mod LetParts
 pub mod LiteralTokens
 pub mod NothingStands

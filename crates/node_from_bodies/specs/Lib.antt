@@ -3,6 +3,7 @@ pub mod BranchParts
 pub mod ExprForms
 pub mod FieldForms
 pub mod Fronts
+pub mod Given
 pub mod JumpParts
 pub mod Operands
 pub mod PatternParts

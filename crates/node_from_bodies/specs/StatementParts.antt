@@ -1,7 +1,7 @@
 -- What parts of statements are read of.
 use Rattle.syn_grammar.specs.Gram.{Gram, ref}
 use Rattle.syn_grammar.specs.Kind as k
-use Rattle.syn_grammar.specs.Name.{the_else, the_semicolon, the_type, the_value}
+use Rattle.syn_grammar.specs.Name.{the_attributes, the_else, the_expression, the_semicolon, the_type, the_value}
 use Rattle.syn_grammar.specs.Say.{◌∶◌, ◌▸◌, when◌read◌else◌, at, keyword, marks, optional, sign}
 
 -- in a body: a lone ; or a statement
@@ -23,3 +23,8 @@ initial = optional (marks "=") (sign "=" ▸ the_value ∶ ref (k.Expression k.P
 -- ;?
 abbrev pub maybe_semicolon : Gram
 maybe_semicolon = optional (marks ";") (the_semicolon ∶ sign ";")
+
+-- an expression, behind its attributes
+abbrev pub an_expression : Gram
+an_expression =
+    the_attributes ∶ ref k.OuterAttributes ▸ the_expression ∶ ref (k.Expression k.InStatement) ▸ maybe_semicolon

@@ -13,10 +13,12 @@ ghost use Rattle.syn_grammar.specs.Tree as t;
 
 use crate::Maker;
 use crate::literals::lit;
-use node_expressions::atom::{ExprGroup, ExprInfer, ExprLit};
+use node_expressions::atom::{ExprGroup, ExprInfer, ExprLit, ExprMacro, ExprPath};
 use node_from::exprs::expression;
+use node_from::macros::mac;
+use node_from::qualified::any_path;
 use node_take as take;
-use reader_table::kind::Position;
+use reader_table::kind::{Position, Style};
 use reader_tree::tree::{Form, Tree};
 use std::alloc::AllocError;
 use syn_kinds::token;
@@ -83,5 +85,47 @@ pub fn expr_group<E: Drop, R: Maker<E>>(
         attrs: Vec::new(below.alloc()),
         group_token,
         expr,
+    })
+}
+
+/// A path.
+///
+/// # Errors
+///
+/// Where there is no memory for it.
+#[tactic(auto, unfolding(syn_grammar::specs::Table::table, syn_grammar::specs::Kept::held, syn_kinds::specs::Table::marks, syn_kinds::specs::Table::sign, syn_kinds::specs::Table::word))]
+pub fn expr_path<E: Drop, R: Maker<E>>(below: &R, own: &Tree<'_>) -> Result<ExprPath<E>, AllocError>
+    requires ready { R.ready below.now }
+    requires shaped { IsShaped own.now (table k.ExprPath) }
+    requires fewer { node_count own.now ≤ R.bound below.now }
+    ensures { IfOk result (λ x. views.expr_path R.view x ≡ t.Alone k.ExprPath (kept own.now)) }
+{
+    let (qself, path) = any_path(below, Style::InExpression, own)?;
+    Ok(ExprPath {
+        attrs: Vec::new(below.alloc()),
+        qself,
+        path,
+    })
+}
+
+/// A call of a macro.
+///
+/// # Errors
+///
+/// Where there is no memory for it.
+#[tactic(auto, unfolding(syn_grammar::specs::Table::table, syn_grammar::specs::Kept::held, syn_kinds::specs::Table::marks, syn_kinds::specs::Table::sign, syn_kinds::specs::Table::word))]
+pub fn expr_macro<E: Drop, R: Maker<E>>(
+    below: &R,
+    own: &Tree<'_>,
+) -> Result<ExprMacro<E>, AllocError>
+    requires ready { R.ready below.now }
+    requires shaped { IsShaped own.now (table k.ExprMacro) }
+    requires fewer { node_count own.now ≤ R.bound below.now }
+    ensures { IfOk result (λ x. views.expr_macro R.view x ≡ t.Alone k.ExprMacro (kept own.now)) }
+{
+    let mac = mac(below, own)?;
+    Ok(ExprMacro {
+        attrs: Vec::new(below.alloc()),
+        mac,
     })
 }

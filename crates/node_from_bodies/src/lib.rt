@@ -12,15 +12,23 @@
 //! - `postfix`: fields, calls of methods and `.await`.
 //! - `branches`: `if`, `match` and arms.
 //! - `params`: parameters of closures.
+//! - `closures`: closures.
 //! - `front`: attributes in front of expressions.
 //! - `locals`: variables that are declared.
+//! - `ranges`: patterns that are paths or ranges.
+//! - `dispatch`: an expression, of its form.
+//! - `given`: expressions as statements, with the attributes in front of them.
+//! - `statements`: statements.
 #![tactic(auto)]
 
 pub mod atoms;
 pub mod blocks;
 pub mod branches;
+pub mod closures;
+pub mod dispatch;
 pub mod form;
 pub mod front;
+pub mod given;
 pub mod jumps;
 pub mod lists;
 pub mod literals;
@@ -30,12 +38,15 @@ pub mod operators;
 pub mod params;
 pub mod patterns;
 pub mod postfix;
+pub mod ranges;
+pub mod statements;
 
 ghost use Rattle.node_from_bodies.specs.ExprForms.{expr_form};
 ghost use Rattle.node_from_bodies.specs.StatementParts.{a_statement};
 ghost use Rattle.node_shapes.specs.Shape.{IsShaped};
 ghost use Rattle.node_views.specs.Patterns as patterns;
 ghost use Rattle.node_views.specs.Statements as statements;
+ghost use Rattle.node_words.specs.Words.{raw};
 ghost use Rattle.reader_tree.specs.Size.{node_count};
 ghost use Rattle.std.specs.Prelude.{◌≡◌, ◌<◌, IfOk};
 ghost use Rattle.syn_grammar.specs.Gram.{ref};
@@ -47,6 +58,7 @@ use node_expressions::statement::Stmt;
 use node_from::Reader;
 use node_paths::attribute::Attribute;
 use node_patterns::Pat;
+use proc_macro2::tree::TokenStream;
 use reader_tree::tree::Tree;
 use std::alloc::AllocError;
 
@@ -59,6 +71,10 @@ pub trait Maker<E>: Reader<E> {
     /// The pattern that one is.
     fn pattern(&self, pattern: Pat<E>) -> E
         ensures { Self.view result ≡ patterns.pat Self.view pattern };
+
+    /// Tokens as they are.
+    fn verbatim(&self, tokens: TokenStream) -> E
+        ensures { Self.view result ≡ raw tokens };
 
     /// The pattern that a smaller tree is, with attributes in front of it.
     ///
