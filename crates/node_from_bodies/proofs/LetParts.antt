@@ -16,7 +16,7 @@ use Rattle.syn_grammar.specs.Types.{kept_if}
 use Rattle.syn_kinds.specs.declared.keyword.Keyword.{Keyword}
 use Rattle.node_shapes.proofs.Braces.{open_kept}
 use Rattle.node_shapes.specs.Shape.{AreForms, IsShaped}
-use Rattle.node_views.specs.Statements.{closed, diverge, let_pattern, let_value}
+use Rattle.node_views.specs.Statements.{closed, diverge, in_parens, let_pattern, let_value}
 use Rattle.node_words.specs.Words.{absent, expression, optional}
 use Rattle.node_from_bodies.specs.StatementParts.{else_part, initial, typed}
 
@@ -117,7 +117,7 @@ value_form (Node _ x) h = cc (h.0)
 value_form _ h = absurd h
 
 closed_open : (x : Tree) → ends_in_braces (flat x) ≡ false → closed x ≡ x
-closed_open x e = ap (λ b. cond b _ x) e
+closed_open x e = ap (λ b. cond b (in_parens x) x) e
 
 pub value_is : {E A : Type 0} (f : E → Tree) (d : Option (Keyword 12 × Box E A)) (y m v o : Tree)
     → IsShaped (First (Pair m (Pair (Called the_value v) o))) initial

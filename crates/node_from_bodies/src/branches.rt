@@ -36,11 +36,16 @@ fn else_operand<E: Drop, R: Maker<E>>(below: &R, tree: &Tree<'_>) -> Result<Box<
     requires fewer { node_count tree.now ≤ R.bound below.now }
     ensures { IfOk result (λ x. views.else_operand (R.view x.value) ≡ kept tree.now) }
 {
-    let form = match take::alternative(1, tree) {
-        (0, other) => ExprForm::If(expr_if(below, take::node(Kind::ExprIf, other))?),
-        (_, last) => ExprForm::Block(plain_block(below, last)?),
-    };
-    Ok(Box::new(below.alloc(), below.expression(form))?)
+    match take::alternative(1, tree) {
+        (0, other) => {
+            let form = ExprForm::If(expr_if(below, take::node(Kind::ExprIf, other))?);
+            Ok(Box::new(below.alloc(), below.expression(form))?)
+        }
+        (_, last) => {
+            let form = ExprForm::Block(plain_block(below, last)?);
+            Ok(Box::new(below.alloc(), below.expression(form))?)
+        }
+    }
 }
 
 // What runs where the condition doesn't hold, if it is there.
