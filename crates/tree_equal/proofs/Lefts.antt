@@ -113,7 +113,8 @@ pub second_behind : (n m : ℕ) (x y b : Tree) (r : Rest) → m < n → t.Second
 second_behind n m x y b r h v i =
     let f : Decides (seconds (n - m - 1) (t.Second x)) y r =
     subst (λ z. Decides z y r) (sym (second_last (n - m - 1) x)) i in
-    subst (λ z. Decides z b r) (second_last n x) (carried (seconds (n - m - 1) (t.Second x)) y (seconds n (t.Second x)) b
+    subst (λ z. Decides z b r) (second_last n x)
+    (carried (seconds (n - m - 1) (t.Second x)) y (seconds n (t.Second x)) b
     (behind n m (t.Second x) y b h v) (behind_count n m (t.Second x) y b h v) r f)
 
 turned : (a b : Tree) (r : Rest) → Decides a b r → Decides b a r
