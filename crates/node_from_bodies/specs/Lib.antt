@@ -1,6 +1,0 @@
-pub mod BlockForms
-pub mod ExprForms
-pub mod JumpParts
-pub mod Operands
-pub mod PatternParts
-pub mod StatementParts

@@ -1,2 +1,0 @@
-pub mod LoneWords
-pub mod Marks
