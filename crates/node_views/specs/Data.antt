@@ -34,7 +34,8 @@ all_attributes f xs = t.Node k.OuterAttributes (turns (attribute f) xs)
 abbrev pub value : {E : Type 0} → (E → Tree) → Punctuation 13 1 × E → Tree
 value f x = mark x.0 ▸ n.the_value ∶ expression (f x.1)
 
--- attributes, visibility, Ident : Type, and (= Expr)?; without a name attributes, visibility and Type
+-- attributes, visibility, Ident : Type, and (= Expr)?; without a name attributes, visibility and Type, behind which
+-- only a hand can put = Expr
 abbrev pub field_of : {E : Type 0} → (E → Tree) → Option Ident → Field E → Tree
 field_of f (Some i) x =
     t.Node k.NamedField (all_attributes f x.attrs.items ▸ visibility f x.vis ▸ name_or "_" i
@@ -52,7 +53,7 @@ fields_named f x = t.Node k.NamedFields (enclosed x.brace_token (list (field f) 
 abbrev pub fields_unnamed : {E : Type 0} → (E → Tree) → FieldsUnnamed E → Tree
 fields_unnamed f x = t.Node k.UnnamedFields (enclosed x.paren_token (list (field f) x.unnamed))
 
--- attributes, no visibility, Ident, {fields} or (fields) or none, and (= Expr)?
+-- {fields} or (fields) or none
 abbrev pub variant_fields : {E : Type 0} → (E → Tree) → Fields E → Tree
 variant_fields f (fields.Named x) = alternative 0 (fields_named f x)
 variant_fields f (fields.Unnamed x) = alternative 1 (fields_unnamed f x)

@@ -172,7 +172,7 @@ expr_if f x =
     attributed f x.attrs.items (t.Alone k.ExprIf (keyword x.if_token ▸ condition (f x.cond.value)
     ▸ block f x.then_branch ▸ optional (else_branch f) x.else_branch))
 
--- attributes, Pat (if Expr)? => Expr ,?
+-- if Expr, behind an arm's pattern
 abbrev pub guard : {E A : Type 0} → (E → Tree) → Keyword 19 × Box E A → Tree
 guard f x = keyword x.0 ▸ expression (f x.1.value)
 
@@ -212,7 +212,7 @@ closure_head f x =
     ▸ optional keyword x.asyncness ▸ optional keyword x.capture
     ▸ mark x.or1_token ▸ list (λ y. closure_param (f y)) x.inputs ▸ mark x.or2_token
 
--- the body is an operand, and behind a type a block
+-- the body is an operand, and behind a type a block; another body, as only a hand can make it, is written as it is
 abbrev pub closure : {E : Type 0} → (E → Tree) → ReturnType E → Tree → Tree → Tree
 closure f returns.Default h y = t.Front k.ExprClosure h y
 closure f (returns.«Type» m x) h y =

@@ -48,11 +48,12 @@ receiver_of f (receivers.Typed c x) o s =
 abbrev pub receiver_form : {E : Type 0} → (E → Tree) → Receiver E → Tree
 receiver_form f x = t.Node k.Receiver (receiver_of f x.kind x.mutability x.self_token)
 
--- a parameter: its attributes, and a receiver, or one alternative : Type
+-- a parameter that is a receiver: its attributes, and the receiver
 abbrev pub receiver : {E : Type 0} → (E → Tree) → Receiver E → Tree
 receiver f x =
     t.Node k.Parameter (outer_attributes f x.attrs.items ▸ alternative 0 (n.the_receiver ∶ receiver_form f x))
 
+-- a parameter with a pattern: its attributes, and one alternative : Type
 abbrev pub typed : {E : Type 0} → (E → Tree) → PatType E → Tree
 typed f x =
     t.Node k.Parameter (outer_attributes f x.attrs.items ▸ last 3 (n.the_pattern ∶ f x.pat.value
@@ -62,7 +63,7 @@ abbrev pub fn_arg : {E : Type 0} → (E → Tree) → FnArg E → Tree
 fn_arg f (args.Receiver x) = receiver f x
 fn_arg f (args.Typed x) = typed f x
 
--- ..., or one alternative : ..., which is the last; a comma is filled in before it
+-- ..., or one alternative : ...
 abbrev pub dots :
     {E A : Type 0} → (E → Tree) → Option (Box E A × Punctuation 6 1) → Punctuation 11 3 → Tree
 dots f None m = alternative 1 (n.the_dots ∶ mark m)
@@ -75,6 +76,7 @@ abbrev pub ended : {P : Type 0} → Option P → Tree → Tree
 ended None x = t.Final x
 ended (Some m) x = t.More x 44 Alone t.End
 
+-- the parameters; a comma is filled in before a variadic, which is the last
 abbrev pub inputs : {E P : Type 0} → (E → Tree) → Punctuated (FnArg E) P → Option (Variadic E) → Tree
 inputs f l None = list (fn_arg f) l
 inputs f l (Some v) = all_listed 44 (fn_arg f) (values l) (ended v.comma (variadic f v))

@@ -25,7 +25,7 @@ use Rattle.node_words.specs.Words.{mark_or, name, lifetime, list, expression, is
 use Rattle.node_views.specs.Paths.{path, outer_attributes, lifetimes, lifetime_param, bound_lifetimes, bound_list}
 use Rattle.node_views.specs.Paths.{bounds_colon}
 
--- (= Type)?
+-- (= Type)?, of which the = is filled in
 abbrev pub type_default : {E : Type 0} → (E → Tree) → Option (Punctuation 13 1) → Option E → Tree
 type_default f m None = absent
 type_default f m (Some x) = t.First (mark_or m ▸ f x)
@@ -36,7 +36,7 @@ type_param f x =
     t.Node k.TypeParam (outer_attributes f x.attrs.items ▸ name x.ident ▸ bounds_colon f x.colon_token x.bounds
     ▸ type_default f x.eq_token x.default)
 
--- (= literal, Ident or block)?
+-- (= literal, Ident or block)?, of which the = is filled in; a hand can put any expression there
 abbrev pub const_default : {E : Type 0} → (E → Tree) → Option (Punctuation 13 1) → Option E → Tree
 const_default f m None = absent
 const_default f m (Some x) = t.First (mark_or m ▸ n.the_value ∶ expression (f x))

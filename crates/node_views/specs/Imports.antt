@@ -29,20 +29,24 @@ use Rattle.node_views.specs.Items.{item_of}
 abbrev pub use_name : Ident → Tree
 use_name i = cond (is_among use_words (ident_text i)) (t.First (name i)) (t.Second (name i))
 
--- *, or a name and then `::` and what it holds, as and another name, or nothing
+-- what stands behind the `::` of others, or alone
 abbrev pub use_branch : Tree → Tree
 use_branch x = t.Node k.UseTree (t.Second (t.Node k.UseBranch x))
 
+-- *
 abbrev pub use_glob : UseGlob → Tree
 use_glob x = use_branch (t.First (mark x.star_token))
 
+-- a name alone
 abbrev pub use_alone : UseName → Tree
 use_alone x = use_branch (t.Second (use_name x.ident ▸ t.Second absent))
 
+-- a name, as, and another one or _
 abbrev pub use_rename : UseRename → Tree
 use_rename x =
     use_branch (t.Second (use_name x.ident ▸ t.Second (t.First (keyword x.as_token ▸ name_or "_" x.rename))))
 
+-- a name, `::` and what it holds
 abbrev pub path_step : UsePath-F Tree Tree Tree → Tree
 path_step x = use_branch (t.Second (use_name x.ident ▸ t.First (mark x.colon2_token ▸ x.tree.value)))
 

@@ -112,15 +112,16 @@ item_extern_crate f x =
 abbrev pub unsafety : Keyword 44 → Tree
 unsafety w = n.the_safety ∶ keyword w
 
--- the one alternative before a word, and the other behind unsafe
+-- the alternative m without unsafe, and n behind it
 abbrev pub by_unsafety : {A : Type 0} → Option A → ℕ → ℕ → Tree → Tree
 by_unsafety None m n x = alternative m x
 by_unsafety (Some w) m n x = alternative n x
 
--- ; or { inner attributes, items }; the ; is filled in, and behind braces none is written
+-- inner attributes, and items
 abbrev pub items : {E : Type 0} → (E → Tree) → List (Attribute E) → List E → Tree
 items f a xs = inner_attributes f a ▸ t.Node k.Items (turns f xs)
 
+-- ; or { inner attributes, items }; the ; is filled in, and behind braces none is written
 abbrev pub module_end :
     {E A : Type 0} → (E → Tree) → List (Attribute E) → Option (Delimiters 1 × Vec E A)
     → Option (Punctuation 36 1) → Tree

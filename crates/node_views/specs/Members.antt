@@ -45,7 +45,7 @@ use Rattle.node_views.specs.Functions.{safety, signature, fn_body, function}
 use Rattle.node_views.specs.Items.{item_of, private, const_form, static_form, unsafety, by_unsafety, definition}
 use Rattle.node_views.specs.Items.{type_end, has_where, alias_form, no_bounds, macro_form}
 
--- what an item of a trait, an impl or an extern block has behind its attributes and its visibility
+-- the word `default` in front of an impl's item
 abbrev pub default : Keyword 52 → Tree
 default w = n.the_default ∶ keyword w
 
@@ -84,7 +84,7 @@ trait_item_type f x =
 
 abbrev pub trait_item_macro : {E : Type 0} → (E → Tree) → TraitItemMacro E → Tree
 trait_item_macro f x =
-    trait_item_of f x.attrs.items (last 3 (macro_form f k.InTrait x.mac t.Nil x.semi_token))
+    trait_item_of f x.attrs.items (alternative 3 (macro_form f k.InTrait x.mac t.Nil x.semi_token))
 
 abbrev pub trait_item : {E : Type 0} → (E → Tree) → TraitItem E → Tree
 trait_item f (traits.Const x) = trait_item_const f x
@@ -142,7 +142,8 @@ impl_item_type f x =
 
 abbrev pub impl_item_macro : {E : Type 0} → (E → Tree) → ImplItemMacro E → Tree
 impl_item_macro f x =
-    impl_item_of f x.attrs.items private None (last 3 (macro_form f k.InImpl x.mac t.Nil x.semi_token))
+    impl_item_of f x.attrs.items private None
+    (alternative 3 (macro_form f k.InImpl x.mac t.Nil x.semi_token))
 
 abbrev pub impl_item : {E : Type 0} → (E → Tree) → ImplItem E → Tree
 impl_item f (impls.Const x) = impl_item_const f x

@@ -1,5 +1,5 @@
 -- Literals, paths with their arguments, bounds, macros and attributes. `f` is the view of what closes the recursion: of
--- an expression its form, of a type or a pattern its node.
+-- an expression its form, of a type, a pattern, an item or what an attribute holds its node.
 use Rattle.std.specs.Prelude.{ℕ, zero, suc, Bool, true, false, ◌&&◌, List, [], ◌∷◌, Option, Some, None}
 use Rattle.std.specs.Prelude.{cond, drop, take, nat_eq}
 use Rattle.std.specs.Fmt.{decimal}
@@ -62,7 +62,7 @@ use Rattle.node_words.specs.Words.{expression, is_empty}
 abbrev pub literal : List ℕ → Tree
 literal cs = cond (starts_with_minus cs) (filled "-" ▸ t.ALiteral (drop 1 cs)) (t.ALiteral cs)
 
--- a literal token, or true or false
+-- true or false
 abbrev pub lit_bool : LitBool → Tree
 lit_bool b = t.AWord (bool_text b.value)
 
@@ -135,7 +135,7 @@ more_behind f arguments.None x = alternative 1 x
 more_behind f (arguments.AngleBracketed y) x = t.First (angle_bracketed f y ▸ t.First x)
 more_behind f (arguments.Parenthesized y) x = alternative 2 (parenthesized f y ▸ x)
 
--- a keyword without arguments
+-- no arguments
 abbrev pub is_bare : {E : Type 0} → PathArguments E → Bool
 is_bare arguments.None = true
 is_bare _ = false
@@ -180,17 +180,18 @@ path_segment f x =
 
 -- qualified paths
 
--- of the separators between segments those that stand before the last of so many, and those behind it
+-- of the separators between segments those that stand before the last of so many
 abbrev pub inner : {P : Type 0} → ℕ → List P → List P
 inner zero ps = []
 inner (suc m) ps = take m ps
 
--- `as` and the trait's path: the segments before the `>`; without them, and without `as`, nothing
+-- the trait's path: the segments before the `>`
 abbrev pub trait_front : {E : Type 0} → (E → Tree) → QSelf E → Path E → Tree
 trait_front f q x =
     t.Node (k.Path k.AtType) (optional mark x.leading_colon ▸ segments f (take q.position (values x.segments))
     (inner q.position (separators x.segments)))
 
+-- `as`, which is not filled in, and the trait's path; without segments before the `>` nothing
 abbrev pub as_trait : {E : Type 0} → (E → Tree) → QSelf E → Path E → Tree
 as_trait f q x = cond (nat_eq q.position 0) absent (t.First (given keyword q.as_token ▸ trait_front f q x))
 

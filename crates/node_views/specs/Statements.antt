@@ -1,4 +1,4 @@
--- Statements and blocks. A pattern that says its type is both where a type may stand behind it.
+-- Statements and blocks. Where a pattern may have a type behind it, both are one value.
 use Rattle.std.specs.Prelude.{Bool, true, false, List, [], Option, Some, None, cond}
 use Rattle.std.specs.declared.boxed.Box.{Box}
 use Rattle.syn_grammar.specs.Tree.{Tree, flat}
@@ -50,7 +50,7 @@ abbrev pub let_value : {A : Type 0} → Option A → Tree → Tree
 let_value None x = x
 let_value (Some d) x = closed x
 
--- the operand of else: braces are put round what is no block
+-- attributes, of which there are none
 abbrev pub no_attributes : Tree
 no_attributes = t.Node k.OuterAttributes t.End
 
@@ -58,11 +58,13 @@ abbrev pub expression_statement : Tree → Tree → Tree
 expression_statement x s =
     t.Node k.AStatement (last 4 (n.the_attributes ∶ no_attributes ▸ n.the_expression ∶ expression x ▸ s))
 
+-- an expression alone in braces
 abbrev pub in_braces : Tree → Tree
 in_braces x =
     t.Node k.Block (t.Group delimiter.Brace (t.Node k.Statements (judged
     (t.Again (t.Second (expression_statement x absent)) t.End))))
 
+-- the operand of else: braces are put round what is no block
 abbrev pub else_block : Tree → Tree
 else_block (t.Alone k.ExprBlock x) = as_block (t.Alone k.ExprBlock x)
 else_block (t.Front k.ExprAttributed a (t.Alone k.ExprBlock x)) =

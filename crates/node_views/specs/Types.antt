@@ -79,10 +79,11 @@ type_impl_trait f x =
 abbrev pub type_path : {E : Type 0} → (E → Tree) → TypePath E → Tree
 type_path f x = any_path f x.qself x.path
 
--- attributes, (Ident or _) : if a name is given, and a type
+-- a parameter's name or _, and :
 abbrev pub argument_name : Ident × Punctuation 6 1 → Tree
 argument_name x = name_or "_" x.0 ▸ mark x.1
 
+-- attributes, a name with its : if one is given, and a type
 abbrev pub fn_ptr_arg : {E : Type 0} → (E → Tree) → FnPtrArg E → Tree
 fn_ptr_arg f x =
     t.Node k.FnPtrArg (outer_attributes f x.attrs.items ▸ optional argument_name x.name ▸ f x.ty)
