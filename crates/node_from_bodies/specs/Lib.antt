@@ -1,5 +1,4 @@
 pub mod BlockForms
-pub mod ExprForms
 pub mod JumpParts
 pub mod Operands
 pub mod PatternParts
