@@ -1,3 +1,4 @@
+pub mod FrontAttributes
 pub mod Indices
 pub mod LiteralTokens
 pub mod NothingStands

@@ -1,0 +1,30 @@
+-- What parts of statements are read of.
+use Rattle.syn_grammar.specs.Gram.{Gram, ref}
+use Rattle.syn_grammar.specs.Kind as k
+use Rattle.syn_grammar.specs.Name.{the_attributes, the_else, the_expression, the_semicolon, the_type, the_value}
+use Rattle.syn_grammar.specs.Say.{◌∶◌, ◌▸◌, when◌read◌else◌, at, keyword, marks, optional, sign}
+
+-- in a body: a lone ; or a statement
+abbrev pub a_statement : Gram
+a_statement = when marks ";" read sign ";" else ref k.AStatement
+
+-- (: Type)?
+abbrev pub typed : Gram
+typed = optional (marks ":") (sign ":" ▸ the_type ∶ ref (k.AType k.WithPlus))
+
+-- (else block)?
+abbrev pub else_part : Gram
+else_part = optional (at "else") (the_else ∶ (keyword "else" ▸ ref k.Block))
+
+-- (= Expr (else block)?)?
+abbrev pub initial : Gram
+initial = optional (marks "=") (sign "=" ▸ the_value ∶ ref (k.Expression k.Plain) ▸ else_part)
+
+-- ;?
+abbrev pub maybe_semicolon : Gram
+maybe_semicolon = optional (marks ";") (the_semicolon ∶ sign ";")
+
+-- an expression, behind its attributes
+abbrev pub an_expression : Gram
+an_expression =
+    the_attributes ∶ ref k.OuterAttributes ▸ the_expression ∶ ref (k.Expression k.InStatement) ▸ maybe_semicolon
