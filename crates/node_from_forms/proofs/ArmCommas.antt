@@ -10,7 +10,7 @@ use Rattle.syn_grammar.specs.Part.{changed}
 use Rattle.syn_grammar.specs.Say.{sign}
 use Rattle.syn_grammar.specs.Tree.{Tree, AMark, AWord, Called, First, Nil, Node, Pair, Second}
 use Rattle.node_shapes.specs.Shape.{IsShaped}
-use Rattle.node_from_bodies.specs.BranchParts.{guard}
+use Rattle.node_from_forms.specs.BranchParts.{guard}
 
 abbrev as_held : Tree → Tree
 as_held x = changed the_comma not_last x

@@ -15,7 +15,7 @@ use Rattle.reader_tokens.specs.Texts.{IsFrom, Reads}
 use Rattle.reader_tokens.proofs.Dots.{at_dot_is, behind_last, behind_more}
 use Rattle.reader_tree.specs.Forms.{turns}
 use Rattle.node_shapes.specs.Shape.{IsShaped}
-use Rattle.node_from_bodies.specs.FieldForms.{numbered}
+use Rattle.node_from_forms.specs.FieldForms.{numbered}
 
 -- the index of a text
 

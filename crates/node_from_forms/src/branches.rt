@@ -1,7 +1,7 @@
 //! Expressions that choose: their forms, each without attributes in front.
 
-ghost use Rattle.node_from_bodies.specs.BranchParts.{arm_comma as arm_comma_entry, else_branch as else_branch_entry};
-ghost use Rattle.node_from_bodies.specs.BranchParts.{else_operand as else_operand_entry, guard as guard_entry};
+ghost use Rattle.node_from_forms.specs.BranchParts.{arm_comma as arm_comma_entry, else_branch as else_branch_entry};
+ghost use Rattle.node_from_forms.specs.BranchParts.{else_operand as else_operand_entry, guard as guard_entry};
 ghost use Rattle.node_shapes.specs.Shape.{IsShaped};
 ghost use Rattle.node_views.specs.Expressions as views;
 ghost use Rattle.node_words.specs.Words as words;
@@ -13,18 +13,18 @@ ghost use Rattle.syn_grammar.specs.Kind as k;
 ghost use Rattle.syn_grammar.specs.Table.{table};
 ghost use Rattle.syn_grammar.specs.Tree as t;
 
-use crate::Maker;
-use crate::blocks::{block, plain_block};
-use crate::form::ExprForm;
-use crate::lists::Arms;
 use node_expressions::branch::{Arm, ExprIf, ExprMatch};
+use node_expressions::expr::Expr;
 use node_from::What;
 use node_from::attributes::{outer_attributes, push_inner_attributes};
 use node_from::exprs::expression;
+use node_from_bodies::Maker;
+use node_from_bodies::blocks::{block, plain_block};
 use node_take as take;
+use node_take::list::Make;
 use reader_table::kind::{Kind, Position};
 use reader_tree::tree::Tree;
-use std::alloc::AllocError;
+use std::alloc::{AllocError, Global};
 use syn_kinds::token;
 
 // What stands behind `else`: another `if`, or a block.
@@ -38,11 +38,11 @@ fn else_operand<E: Drop, R: Maker<E>>(below: &R, tree: &Tree<'_>) -> Result<Box<
 {
     match take::alternative(1, tree) {
         (0, other) => {
-            let form = ExprForm::If(expr_if(below, take::node(Kind::ExprIf, other))?);
+            let form = Expr::If(expr_if(below, take::node(Kind::ExprIf, other))?);
             Ok(Box::new(below.alloc(), below.expression(form))?)
         }
         (_, last) => {
-            let form = ExprForm::Block(plain_block(below, last)?);
+            let form = Expr::Block(plain_block(below, last)?);
             Ok(Box::new(below.alloc(), below.expression(form))?)
         }
     }
@@ -134,7 +134,7 @@ fn arm_comma(tree: &Tree<'_>) -> Option<token::Comma>
 /// # Errors
 ///
 /// Where there is no memory for it.
-#[tactic(auto, using(crate::proofs::Singles::singles, crate::proofs::ArmCommas::arms), unfolding(syn_grammar::specs::Table::table, syn_grammar::specs::Kept::held, syn_kinds::specs::Table::marks, syn_kinds::specs::Table::sign, syn_kinds::specs::Table::word))]
+#[tactic(auto, using(node_from_bodies::proofs::Singles::singles, crate::proofs::ArmCommas::arms), unfolding(syn_grammar::specs::Table::table, syn_grammar::specs::Kept::held, syn_kinds::specs::Table::marks, syn_kinds::specs::Table::sign, syn_kinds::specs::Table::word))]
 pub fn arm<E: Drop, R: Maker<E>>(below: &R, tree: &Tree<'_>) -> Result<Arm<E>, AllocError>
     requires ready { R.ready below.now }
     requires shaped { IsShaped tree.now (g.ref k.Arm) }
@@ -155,6 +155,30 @@ pub fn arm<E: Drop, R: Maker<E>>(below: &R, tree: &Tree<'_>) -> Result<Arm<E>, A
         body,
         comma: arm_comma(take::called(comma)),
     })
+}
+
+// Makes the arms of a `match`.
+#[derive(Clone, Copy)]
+struct Arms<'r, R> {
+    below: &'r R,
+}
+
+impl<'r, E: Drop, R: Maker<E>> Make<Arm<E>> for Arms<'r, R> {
+    ghost shape = { g.ref k.Arm };
+
+    ghost view = { views.arm R.view };
+
+    ghost ready = { λ s. R.ready s.below.now };
+
+    ghost bound = { λ s. R.bound s.below.now };
+
+    fn alloc(&self) -> Global {
+        self.below.alloc()
+    }
+
+    fn make(&self, tree: &Tree<'_>) -> Result<Arm<E>, AllocError> {
+        arm(self.below, tree)
+    }
 }
 
 /// A choice by patterns.

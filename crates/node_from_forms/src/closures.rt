@@ -10,16 +10,17 @@ ghost use Rattle.syn_grammar.specs.Kind as k;
 ghost use Rattle.syn_grammar.specs.Table.{table};
 ghost use Rattle.syn_grammar.specs.Tree as t;
 
-use crate::Maker;
-use crate::blocks::plain_block;
-use crate::form::ExprForm;
-use crate::lists::Params;
 use node_expressions::closure::{ClosureModifiers, ExprClosure};
+use node_expressions::expr::Expr;
 use node_from::bounds::optional_lifetimes;
-use node_from::types::return_type;
+use node_from::fn_pointers::return_type;
 use node_from::{What, child};
+use node_from_bodies::Maker;
+use node_from_bodies::blocks::plain_block;
+use node_from_bodies::lists::Params;
 use node_paths::path::ReturnType;
 use node_take as take;
+use reader_table::kind::Plus;
 use reader_tree::tree::Tree;
 use std::alloc::AllocError;
 
@@ -96,8 +97,8 @@ pub fn expr_typed_closure<E: Drop, R: Maker<E>>(
     ensures { IfOk result (λ x. views.expr_closure R.view x ≡ t.Alone k.ExprTypedClosure (kept own.now)) }
 {
     let (head, output, inside) = take::three(own);
-    let output = return_type(below, output)?;
-    let block = ExprForm::Block(plain_block(below, inside)?);
+    let output = return_type(below, Plus::WithPlus, output)?;
+    let block = Expr::Block(plain_block(below, inside)?);
     let body = Box::new(below.alloc(), below.expression(block))?;
     with_head(below, head, output, body)
 }

@@ -1,7 +1,7 @@
 //! Fields, calls of methods and `.await`: their forms, each without attributes. A number behind a dot is split at its
 //! dots, and each index is that of a field by itself.
 
-ghost use Rattle.node_from_bodies.specs.FieldForms.{indices_of, maybe_arguments};
+ghost use Rattle.node_from_forms.specs.FieldForms.{indices_of, maybe_arguments};
 ghost use Rattle.node_shapes.specs.Shape.{AreForms, IsShaped};
 ghost use Rattle.node_views.specs.Expressions as views;
 ghost use Rattle.node_views.specs.Paths.{angle_bracketed};
@@ -14,15 +14,15 @@ ghost use Rattle.syn_grammar.specs.Kind as k;
 ghost use Rattle.syn_grammar.specs.Table.{table};
 ghost use Rattle.syn_grammar.specs.Words.{are_indices, indices};
 
-use crate::Maker;
-use crate::form::ExprForm;
 use node_expressions::call::{ExprAwait, ExprField, ExprMethodCall};
+use node_expressions::expr::Expr;
 use node_from::lists::Expressions;
 use node_from::paths::angle_bracketed;
 use node_from::{What, child};
+use node_from_bodies::Maker;
 use node_paths::path::AngleBracketedGenericArguments;
 use node_take as take;
-use node_take::Turns;
+use node_take::list::Turns;
 use reader_tokens::text::{first_char, integer};
 use reader_tree::tree::Tree;
 use rust_map::span::Span;
@@ -59,7 +59,7 @@ fn field_of_text<E: Drop, R: Maker<E>>(
     match first_char(behind) {
         None => Ok(field),
         Some(_) => {
-            let base = Box::new(below.alloc(), below.expression(ExprForm::Field(field)))?;
+            let base = Box::new(below.alloc(), below.expression(Expr::Field(field)))?;
             field_of_text(below, base, Punctuation::new([span]), behind, span)
         }
     }
@@ -84,7 +84,7 @@ fn front_fields<E: Drop, R: Maker<E>>(
     for number in each {
         let literal = take::literal(number)?;
         let field = field_of_text(below, base, dot_token, literal.as_str(), literal.span())?;
-        base = Box::new(below.alloc(), below.expression(ExprForm::Field(field)))?;
+        base = Box::new(below.alloc(), below.expression(Expr::Field(field)))?;
         dot_token = Punctuation::new([literal.span()]);
     }
     Ok((base, dot_token))

@@ -18,7 +18,7 @@ use Rattle.node_shapes.proofs.Braces.{open_kept}
 use Rattle.node_shapes.specs.Shape.{AreForms, IsShaped}
 use Rattle.node_views.specs.Statements.{closed, diverge, in_parens, let_pattern, let_value}
 use Rattle.node_words.specs.Words.{absent, expression, optional}
-use Rattle.node_from_bodies.specs.StatementParts.{else_part, initial, typed}
+use Rattle.node_from_statements.specs.StatementParts.{else_part, initial, typed}
 
 -- a pattern without a type
 

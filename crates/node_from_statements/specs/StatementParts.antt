@@ -2,11 +2,7 @@
 use Rattle.syn_grammar.specs.Gram.{Gram, ref}
 use Rattle.syn_grammar.specs.Kind as k
 use Rattle.syn_grammar.specs.Name.{the_attributes, the_else, the_expression, the_semicolon, the_type, the_value}
-use Rattle.syn_grammar.specs.Say.{◌∶◌, ◌▸◌, when◌read◌else◌, at, keyword, marks, optional, sign}
-
--- in a body: a lone ; or a statement
-abbrev pub a_statement : Gram
-a_statement = when marks ";" read sign ";" else ref k.AStatement
+use Rattle.syn_grammar.specs.Say.{◌∶◌, ◌▸◌, at, keyword, marks, optional, sign}
 
 -- (: Type)?
 abbrev pub typed : Gram

@@ -1,6 +1,6 @@
 //! Variables that are declared.
 
-ghost use Rattle.node_from_bodies.specs.StatementParts.{else_part, initial, typed};
+ghost use Rattle.node_from_statements.specs.StatementParts.{else_part, initial, typed};
 ghost use Rattle.node_shapes.specs.Shape.{IsShaped};
 ghost use Rattle.node_views.specs.Paths.{outer_attributes};
 ghost use Rattle.node_views.specs.Statements as views;
@@ -14,12 +14,12 @@ ghost use Rattle.syn_grammar.specs.Statements.{is_let};
 ghost use Rattle.syn_grammar.specs.Tree as t;
 ghost use Rattle.syn_grammar.specs.Tree.{Tree as GivenTree};
 
-use crate::Maker;
-use crate::blocks::plain_block;
-use crate::form::ExprForm;
+use node_expressions::expr::Expr;
 use node_expressions::statement::{Local, LocalInit, LocalModifiers};
 use node_from::exprs::expression;
 use node_from::{What, child};
+use node_from_bodies::Maker;
+use node_from_bodies::blocks::plain_block;
 use node_paths::attribute::Attribute;
 use node_patterns::Pat;
 use node_patterns::kinds::PatType;
@@ -62,7 +62,7 @@ fn local_pattern<E: Drop, R: Maker<E>>(
 }
 
 // What runs where the pattern of a variable doesn't match, if that is written.
-#[tactic(auto, using(crate::proofs::BlockForms::blocks), unfolding(syn_grammar::specs::Table::table, syn_grammar::specs::Kept::held, syn_kinds::specs::Table::marks, syn_kinds::specs::Table::sign, syn_kinds::specs::Table::word))]
+#[tactic(auto, using(node_from_forms::proofs::BlockForms::blocks), unfolding(syn_grammar::specs::Table::table, syn_grammar::specs::Kept::held, syn_kinds::specs::Table::marks, syn_kinds::specs::Table::sign, syn_kinds::specs::Table::word))]
 fn diverge<E: Drop, R: Maker<E>>(
     below: &R,
     tree: &Tree<'_>,
@@ -75,7 +75,7 @@ fn diverge<E: Drop, R: Maker<E>>(
     match take::optional(tree) {
         Some(behind) => {
             let (else_token, inside) = take::pair(take::called(behind));
-            let block = ExprForm::Block(plain_block(below, inside)?);
+            let block = Expr::Block(plain_block(below, inside)?);
             let block = Box::new(below.alloc(), below.expression(block))?;
             Ok(Some((take::keyword(else_token), block)))
         }

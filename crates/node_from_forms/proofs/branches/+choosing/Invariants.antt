@@ -1,5 +1,5 @@
 use Rattle.reader_tree.specs.Size.{node_count}
-use Rattle.node_from_bodies.proofs.branches.+choosing.Given as goal
+use Rattle.node_from_forms.proofs.branches.+choosing.Given as goal
 
 abbrev pub decreases-else_operand : goal.decreases-else_operand
 decreases-else_operand g l = node_count l.tree.now

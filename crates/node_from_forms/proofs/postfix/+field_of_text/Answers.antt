@@ -1,8 +1,8 @@
 use Rattle.std.proofs.Common.{arith}
 use Rattle.std.specs.Str.{chars}
 use Rattle.syn_kinds.specs.Table as table
-use Rattle.node_from_bodies.proofs.FieldTexts.{last_dot}
-use Rattle.node_from_bodies.proofs.postfix.+field_of_text.Goals as goal
+use Rattle.node_from_forms.proofs.FieldTexts.{last_dot}
+use Rattle.node_from_forms.proofs.postfix.+field_of_text.Goals as goal
 
 pub returns-in-None : goal.returns-in-None
 unfolding table.marks table.sign

@@ -3,8 +3,8 @@ use Rattle.rust_leaf.specs.Leaf.{literal_text}
 use Rattle.syn_grammar.specs.Gram.{literal}
 use Rattle.syn_grammar.specs.Words.{are_indices}
 use Rattle.node_take.proofs.Lists.{turn_shaped}
-use Rattle.node_from_bodies.proofs.FieldTexts.{number_stands}
-use Rattle.node_from_bodies.proofs.postfix.front_fields.Goals as goal
+use Rattle.node_from_forms.proofs.FieldTexts.{number_stands}
+use Rattle.node_from_forms.proofs.postfix.front_fields.Goals as goal
 
 pub field_of_text-requires : goal.field_of_text-requires
 field_of_text-requires g c =

@@ -5,7 +5,7 @@ use Rattle.syn_grammar.specs.Kept.{fields_in_front, kept}
 use Rattle.syn_grammar.specs.Words.{are_indices}
 use Rattle.reader_tree.specs.Forms.{turns}
 use Rattle.node_shapes.specs.Shape.{IsShaped}
-use Rattle.node_from_bodies.proofs.postfix.front_fields.Given as goal
+use Rattle.node_from_forms.proofs.postfix.front_fields.Given as goal
 
 -- behind what is made stand the fields that are left; and these have the shape of some
 abbrev pub invariant-loop-number : goal.invariant-loop-number

@@ -4,8 +4,8 @@ use Rattle.syn_grammar.specs.Statements.{is_let, let_form}
 use Rattle.syn_grammar.specs.Table.{table}
 use Rattle.syn_grammar.specs.Tree as t
 use Rattle.node_shapes.specs.Shape.{IsShaped}
-use Rattle.node_from_bodies.proofs.LetParts.{let_closed}
-use Rattle.node_from_bodies.proofs.locals.local.Goals as goal
+use Rattle.node_from_statements.proofs.LetParts.{let_closed}
+use Rattle.node_from_statements.proofs.locals.local.Goals as goal
 
 pub kept-parts-requires : goal.kept-parts-requires
 unfolding table
