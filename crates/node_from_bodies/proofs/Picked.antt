@@ -60,6 +60,7 @@ end_passes c p (x ∷ es) y h =
     ∙ end_passes c p es y (second (p x.tree) _ h)
 
 some_node : (y : Tree) → 1 ≤ node_count y
+some_node (t.Pair x z) = omega arith
 some_node _ = omega arith
 
 pub end_fewer : (c : ℕ) (es : List Element) (y : Tree) (n : ℕ)

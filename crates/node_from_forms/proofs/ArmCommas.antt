@@ -10,7 +10,8 @@ use Rattle.syn_grammar.specs.Part.{changed}
 use Rattle.syn_grammar.specs.Say.{sign}
 use Rattle.syn_grammar.specs.Tree.{Tree, AMark, AWord, Called, First, Nil, Node, Pair, Second}
 use Rattle.node_shapes.specs.Shape.{IsShaped}
-use Rattle.node_from_forms.specs.BranchParts.{guard}
+use Rattle.node_words.specs.Words.{last}
+use Rattle.node_from_forms.specs.BranchParts.{arm_comma, guard}
 
 abbrev as_held : Tree → Tree
 as_held x = changed the_comma not_last x
@@ -53,3 +54,18 @@ arm_held a p g m b c ha hp hg hm hb =
     (mark_held m hm)
 
 pub ruleset arms = (arm_held)
+
+-- none, at the end and before another arm
+
+pub comma_end : (x o : Tree) → x ≡ First o → IsShaped x arm_comma → last 2 Nil ≡ not_last (kept x)
+comma_end (First Nil) o e h = refl
+comma_end (First _) o e h = absurd h
+comma_end _ o e h = cc e
+
+pub no_comma : (x o : Tree) → x ≡ Second (Second o) → IsShaped x arm_comma → last 2 Nil ≡ not_last (kept x)
+no_comma (Second (Second Nil)) o e h = refl
+no_comma (Second (Second _)) o e h = absurd h
+no_comma (Second _) o e h = cc e
+no_comma _ o e h = cc e
+
+pub ruleset commas = (comma_end, no_comma)

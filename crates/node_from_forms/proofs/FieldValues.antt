@@ -1,13 +1,15 @@
 -- Fields with their values in braces, of which the last may be a .. .
 use Rattle.std.specs.Prelude.{◌≡◌, ◌++◌, Bool, true, false, not, List, [], ◌∷◌, Option, Some, None, length, refl}
+use Rattle.std.specs.declared.alloc.Global.{Global}
 use Rattle.std.specs.declared.boxed.Box.{Box}
 use Rattle.std.proofs.Common.{ap, subst, sym, ◌∙◌}
 use Rattle.std.proofs.lemmas.Bool.{false≢true}
 use denote.Bor.{Bor}
+use Rattle.proc_macro2.specs.Token.{Token}
 use Rattle.proc_macro2.specs.declared.delimiter.Delimiter.{Delimiter}
 use Rattle.syn_grammar.specs.Expressions.{is_base}
 use Rattle.syn_grammar.specs.Forms.{may_be_left}
-use Rattle.syn_grammar.specs.Gram.{Gram, Keep, called, many, ref}
+use Rattle.syn_grammar.specs.Gram.{Gram, Keep, alt, called, many, nothing, ref}
 use Rattle.syn_grammar.specs.Kept.{kept}
 use Rattle.syn_grammar.specs.Kind as k
 use Rattle.syn_grammar.specs.Look.{sees, the_end}
@@ -47,13 +49,23 @@ base_stands x i o g e d h = ap is_base (e ∙ ap (t.Node k.AFieldValue) d) ∙ b
 
 pub ruleset bases = (base_stands)
 
+-- nothing stands behind the ..
+
+pub no_value : (x o : Tree) (test : List Token → Bool) (g : Gram) → x ≡ t.First o → IsShaped x (alt test nothing g)
+    → t.First t.Nil ≡ kept x
+no_value (t.First t.Nil) o test g e h = refl
+no_value (t.First _) o test g e h = absurd h
+no_value _ o test g e h = cc e
+
+pub ruleset values = (no_value)
+
 -- a field that is none
 
 both : (b : Bool) → b ≡ true → not b ≡ true → ⊥
 both true e h = absurd (false≢true h)
 both false e h = absurd (false≢true e)
 
-pub no_field : {E : Type 0} (e : Entry E) (m : Punctuation 10 2) (x : Option (Box E _)) (y : Tree)
+pub no_field : {E : Type 0} (e : Entry E) (m : Punctuation 10 2) (x : Option (Box E Global)) (y : Tree)
     → e ≡ entries.Base m x → IsBaseOf e y → not (is_base y) ≡ true → ⊥
 no_field (entries.Base n z) m x y e h b = both (is_base y) h b
 no_field (entries.Field z) m x y e h b = cc e
@@ -62,7 +74,7 @@ pub field_of : {E : Type 0} (f : E → Tree) (e : Entry E) (x : FieldValue E) (y
     → entry_tree f e ≡ y → a_field_value f x ≡ y
 field_of f e x y p h = ap (entry_tree f) (sym p) ∙ h
 
-pub base_of : {E : Type 0} (f : E → Tree) (e : Entry E) (m : Punctuation 10 2) (x : Option (Box E _)) (y : Tree)
+pub base_of : {E : Type 0} (f : E → Tree) (e : Entry E) (m : Punctuation 10 2) (x : Option (Box E Global)) (y : Tree)
     → e ≡ entries.Base m x → entry_tree f e ≡ y → field_base f (Some m) x ≡ y
 base_of f e m x y p h = ap (entry_tree f) (sym p) ∙ h
 

@@ -15,7 +15,7 @@ use Rattle.node_shapes.specs.Shape.{AreForms}
 use Rattle.node_take.specs.Forms.{before_kind}
 use Rattle.node_take.specs.declared.form.Before.{Before}
 use Rattle.node_take.specs.declared.form.Before.TheVariants as befores
-use Rattle.node_views.specs.Paths.{attribute, inner_of, outer}
+use Rattle.node_views.specs.Paths.{attribute, outer}
 use Rattle.node_views.specs.Statements.{attributed, behind_outer}
 use Rattle.node_words.specs.Words.{turns}
 use Rattle.node_from_bodies.proofs.FrontAttributes.{inner_in_front, outer_in_front}
@@ -28,26 +28,17 @@ none_in_front : {E : Type 0} (f : E → Tree) (xs : List (Attribute E)) (y : Tre
 none_in_front f [] y h = refl
 none_in_front f (x ∷ xs) y h = absurd (false≢true h)
 
--- of a node whose own part doesn't tell them
-pub put_before : {E : Type 0} (f : E → Tree) (fs xs zs : List (Attribute E)) (y : Tree) → zs ≡ fs ++ xs
-    → is_bare (attributed f xs y) ≡ true
-    → attributed f zs y ≡ behind_outer (turns (attribute f) (outer fs)) (attributed f xs y)
-put_before f fs xs zs y e h =
+-- the own part may hold those within, which stay the same
+pub put_before : {E : Type 0} (f : E → Tree) (fs xs zs : List (Attribute E)) (y z : Tree) → zs ≡ fs ++ xs
+    → is_bare (attributed f xs y) ≡ true → z ≡ y
+    → attributed f zs z ≡ behind_outer (turns (attribute f) (outer fs)) (attributed f xs y)
+put_before f fs xs zs y z e h d =
     let n : outer xs ≡ [] = none_in_front f (outer xs) y h in
-    ap (λ us. attributed f us y) e
+    ap (attributed f zs) d ∙ ap (λ us. attributed f us y) e
     ∙ ap (λ us. behind_outer (turns (attribute f) us) y) (outer_in_front fs xs n)
     ∙ ap (λ us. behind_outer (turns (attribute f) (outer fs)) (behind_outer (turns (attribute f) us) y)) (sym n)
 
--- of one that holds those within, too
-pub put_around : {E : Type 0} (f : E → Tree) (fs xs zs : List (Attribute E)) (y : List (Attribute E) → Tree)
-    → zs ≡ fs ++ xs → inner_of fs ≡ [] → is_bare (attributed f xs (y (inner_of xs))) ≡ true
-    → attributed f zs (y (inner_of zs))
-    ≡ behind_outer (turns (attribute f) (outer fs)) (attributed f xs (y (inner_of xs)))
-put_around f fs xs zs y e i h =
-    ap (λ us. attributed f zs (y us)) (ap inner_of e ∙ inner_in_front fs xs i)
-    ∙ put_before f fs xs zs (y (inner_of xs)) e h
-
-pub ruleset fronts = (put_before, put_around)
+pub ruleset fronts = (put_before, inner_in_front)
 
 -- a form that begins with no attributes has none in front
 

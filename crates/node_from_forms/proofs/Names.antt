@@ -2,6 +2,7 @@
 use Rattle.std.specs.Prelude.{◌≡◌, ◌||◌, ℕ, Bool, true, false, List, [], ◌∷◌, codes, cond, not, refl}
 use Rattle.std.proofs.Common.{ap, sym, ◌∙◌}
 use Rattle.syn_grammar.specs.Kept.{as_path, kept}
+use Rattle.syn_grammar.specs.Kind as k
 use Rattle.syn_grammar.specs.Say.{ident}
 use Rattle.syn_grammar.specs.Tree as t
 use Rattle.syn_grammar.specs.Tree.{Tree}
@@ -42,7 +43,8 @@ by_keyword false x y e = refl
 
 pub name_path : (x : Tree) → IsShaped x ident → lone (kept x) ≡ as_path (kept x)
 name_path (t.AWord cs) h =
-    ap (λ y. t.Node _ (t.Pair (t.Second t.Nil) (t.Node _ y))) (by_keyword (is_path_keyword cs) _ _ (no_keyword cs h))
+    ap (λ y. t.Node (k.Path k.AtType) (t.Pair (t.Second t.Nil) (t.Node (k.Segments k.AtType) y)))
+    (by_keyword (is_path_keyword cs) _ _ (no_keyword cs h))
 name_path _ h = absurd h
 
 pub ruleset names = (name_path)

@@ -118,13 +118,15 @@ fn guard<E: Drop, R: Maker<E>>(
 }
 
 // The comma behind an arm, if there is one. Whether an arm without one is the last isn't held.
-#[tactic(auto, unfolding(syn_grammar::specs::Table::table, syn_grammar::specs::Kept::held, syn_kinds::specs::Table::marks, syn_kinds::specs::Table::sign, syn_kinds::specs::Table::word))]
+#[tactic(auto, using(crate::proofs::ArmCommas::commas), unfolding(syn_grammar::specs::Table::table, syn_grammar::specs::Kept::held, syn_kinds::specs::Table::marks, syn_kinds::specs::Table::sign, syn_kinds::specs::Table::word))]
 fn arm_comma(tree: &Tree<'_>) -> Option<token::Comma>
     requires { IsShaped tree.now arm_comma_entry }
     ensures { views.arm_comma result ≡ not_last (kept tree.now) }
 {
-    match take::alternative(2, tree) {
-        (1, comma) => Some(take::sign(comma)),
+    let (which, own) = take::alternative(2, tree);
+    match which {
+        0 => None,
+        1 => Some(take::sign(own)),
         _ => None,
     }
 }

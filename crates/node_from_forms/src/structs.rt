@@ -129,7 +129,7 @@ pub fn field_value<E: Drop, R: Maker<E>>(
 }
 
 // What the other fields are taken from, if it is there.
-#[tactic(auto, unfolding(syn_grammar::specs::Table::table, syn_grammar::specs::Kept::held, syn_kinds::specs::Table::marks, syn_kinds::specs::Table::sign, syn_kinds::specs::Table::word))]
+#[tactic(auto, using(crate::proofs::FieldValues::values), unfolding(syn_grammar::specs::Table::table, syn_grammar::specs::Kept::held, syn_kinds::specs::Table::marks, syn_kinds::specs::Table::sign, syn_kinds::specs::Table::word))]
 fn base_value<E: Drop, R: Maker<E>>(
     below: &R,
     tree: &Tree<'_>,

@@ -38,6 +38,11 @@ abbrev pub is_one : Tree → Bool
 is_one (t.Node k.OnePattern x) = true
 is_one x = false
 
+-- no turn stands there
+abbrev pub is_end : Tree → Bool
+is_end t.End = true
+is_end x = false
+
 -- a field, or the .. behind the fields
 abbrev pub entry_tree : {E : Type 0} → (E → Tree) → Entry E → Tree
 entry_tree f (entries.Field x) = field_pat f x

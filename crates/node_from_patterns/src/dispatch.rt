@@ -1,11 +1,12 @@
 //! A pattern, of its kind, and with attributes in front of it.
 
 ghost use Rattle.node_from.specs.Whats.{single};
-ghost use Rattle.node_from_patterns.specs.PatternForms.{is_one};
+ghost use Rattle.node_from_patterns.specs.PatternForms.{is_end, is_one};
 ghost use Rattle.node_shapes.specs.Shape.{IsShaped};
 ghost use Rattle.node_views.specs.Patterns as views;
+ghost use Rattle.proc_macro2.specs.Token.{Token};
 ghost use Rattle.reader_tree.specs.Size.{node_count};
-ghost use Rattle.std.specs.Prelude.{◌≡◌, ◌≤◌, IfOk, true};
+ghost use Rattle.std.specs.Prelude.{◌≡◌, ◌≤◌, Bool, IfOk, List, true};
 ghost use Rattle.syn_grammar.specs.Gram as g;
 ghost use Rattle.syn_grammar.specs.Kept.{kept};
 ghost use Rattle.syn_grammar.specs.Kind as k;
@@ -50,6 +51,15 @@ pub fn one_pattern<E: Drop, R: Maker<E>>(below: &R, tree: &Tree<'_>) -> Result<P
     }
 }
 
+// Whether no turn stands there.
+#[tactic(auto, using(crate::proofs::Whole::tests))]
+fn is_end(turns: &Tree<'_>) -> bool
+    requires { ((e : List Token → Bool) × (a : g.Gram) × IsShaped turns.now (g.star e a)) }
+    ensures { result ≡ is_end turns.now }
+{
+    take::all_turns(turns).each.is_empty()
+}
+
 /// A pattern, which may have several alternatives. One without a leading `|` is itself.
 ///
 /// # Errors
@@ -65,7 +75,7 @@ pub fn pattern<E: Drop, R: Maker<E>>(below: &R, tree: &Tree<'_>) -> Result<Pat<E
     let (vert, first, more) = take::three(take::node(Kind::Pattern, tree));
     match take::optional(vert) {
         Some(mark) => Ok(Pat::Or(pat_or(below, Some(take::sign(mark)), first, more)?)),
-        None => if take::all_turns(more).each.is_empty() {
+        None => if is_end(more) {
             one_pattern(below, first)
         } else {
             Ok(Pat::Or(pat_or(below, None, first, more)?))

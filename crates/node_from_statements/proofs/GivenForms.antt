@@ -33,6 +33,10 @@ use Rattle.node_from_bodies.specs.Operands.{is_range}
 use Rattle.node_from_statements.specs.Given.{given_form, goes_left, is_formed}
 use Rattle.node_from_statements.specs.StatementParts.{an_expression as expression_entry}
 
+second : (b : Bool) (x y : Tree) → b ≡ false → cond b x y ≡ y
+second true x y e = cc e
+second false x y e = refl
+
 -- what is kept of a form is one
 
 fields_formed : (l : Tree) (cs : List ℕ) (texts : List (List ℕ))
@@ -216,10 +220,6 @@ HasAttributes (Node OuterAttributes End) = Unit {0}
 HasAttributes (Node OuterAttributes (Again a b)) = Unit {0}
 HasAttributes x = ⊥
 
-second : (b : Bool) (x y : Tree) → b ≡ false → cond b x y ≡ y
-second true x y e = cc e
-second false x y e = refl
-
 pub other_statement : (a y s : Tree) → HasAttributes a → (is_macro y && is_there s) ≡ false
     → expression_statement a (Node (Expression Plain) (Whole y)) s
     ≡ an_expression (Node OuterAttributes End) (Node (Expression Plain) (Whole (given_form a y))) s
@@ -237,13 +237,13 @@ has_attributes _ h = absurd h
 
 -- a statement's parts
 
-abbrev is_called : Tree → Tree → Type 0
-is_called x y = (n : Part) × (x ≡ Called n y)
+abbrev IsCalled : Tree → Tree → Type 0
+IsCalled x y = (n : Part) × (x ≡ Called n y)
 
 abbrev with_names : Part → Part → Tree → Tree → Tree → Tree
 with_names n m a e s = Pair (Called n a) (Pair (Called m e) s)
 
-parted : (x u v s a i z w : Tree) (p : is_called u a) (q : is_called v i) → x ≡ Pair u (Pair v s)
+parted : (x u v s a i z w : Tree) (p : IsCalled u a) (q : IsCalled v i) → x ≡ Pair u (Pair v s)
     → i ≡ Node (Expression InStatement) z → z ≡ Whole w
     → x ≡ with_names p.0 q.0 a (Node (Expression InStatement) (Whole w)) s
 parted x u v s a i z w p q e d h =
@@ -259,7 +259,7 @@ named x a w s n m h e =
     e ∙ ap (λ j. with_names j m a (Node (Expression InStatement) (Whole w)) s) g.0.0
     ∙ ap (λ j. with_names the_attributes j a (Node (Expression InStatement) (Whole w)) s) g.1.0.0
 
-apart : (x u v s a i z w : Tree) → is_called u a → is_called v i → IsShaped x expression_entry
+apart : (x u v s a i z w : Tree) → IsCalled u a → IsCalled v i → IsShaped x expression_entry
     → x ≡ Pair u (Pair v s) → i ≡ Node (Expression InStatement) z → z ≡ Whole w
     → x ≡ with_names the_attributes the_expression a (Node (Expression InStatement) (Whole w)) s
 apart x u v s a i z w p q g e d h = named x a w s p.0 q.0 g (parted x u v s a i z w p q e d h)
@@ -277,7 +277,7 @@ none_begin (Node OuterAttributes b) w s g h = h.2
 none_begin (Node _ b) w s g h = cc (g.0)
 none_begin _ w s g h = absurd g
 
-pub begins_none : (x u v s a i z w : Tree) → is_called u a → is_called v i → IsShaped x expression_entry
+pub begins_none : (x u v s a i z w : Tree) → IsCalled u a → IsCalled v i → IsShaped x expression_entry
     → x ≡ Pair u (Pair v s) → i ≡ Node (Expression InStatement) z → z ≡ Whole w → begins_attributed w ≡ false
 begins_none x u v s a i z w p q g e d h =
     let f = apart x u v s a i z w p q g e d h in
@@ -297,36 +297,40 @@ nor : (b c : Bool) → c ≡ false → (b && c) ≡ false
 nor true c e = e
 nor false c e = refl
 
-pub no_macro : (x u v s a i z w y : Tree) (o : Option (Punctuation 36 1)) → is_called u a → is_called v i
+pub no_macro : (x u v s a b i z w y : Tree) (o : Option (Punctuation 36 1)) → IsCalled u a → IsCalled v i
     → IsShaped x expression_entry → x ≡ Pair u (Pair v s) → i ≡ Node (Expression InStatement) z → z ≡ Whole w
-    → is_macro (kept w) ≡ false → optional semicolon o ≡ kept s
-    → y ≡ Second (views.expression_statement (given_form (kept a) (kept w)) (optional semicolon o))
+    → b ≡ kept a → is_macro (kept w) ≡ false → optional semicolon o ≡ kept s
+    → y ≡ Second (views.expression_statement (given_form b (kept w)) (optional semicolon o))
     → y ≡ Second (Node AStatement (as_statement (last 4 (kept x))))
-no_macro x u v s a i z w y o p q g e d h m t r =
+no_macro x u v s a b i z w y o p q g e d h c m t r =
     let f = apart x u v s a i z w p q g e d h in
-    r ∙ ap (λ c. Second (views.expression_statement (given_form (kept a) (kept w)) c)) t
-    ∙ ap (λ c. Second (Node AStatement c)) (sym (statement_held x a w s f
+    r ∙ ap (λ j. Second (views.expression_statement (given_form j (kept w)) (optional semicolon o))) c
+    ∙ ap (λ j. Second (views.expression_statement (given_form (kept a) (kept w)) j)) t
+    ∙ ap (λ j. Second (Node AStatement j)) (sym (statement_held x a w s f
     ∙ other_statement (kept a) (kept w) (kept s) (has_attributes a (front_shaped x a w s g f)) (neither _ _ m)))
 
-pub no_mark : (x u v s a i z w y : Tree) → is_called u a → is_called v i
+pub no_mark : (x u v s a b i z w y : Tree) → IsCalled u a → IsCalled v i
     → IsShaped x expression_entry → x ≡ Pair u (Pair v s) → i ≡ Node (Expression InStatement) z → z ≡ Whole w
-    → Second Nil ≡ kept s → y ≡ Second (views.expression_statement (given_form (kept a) (kept w)) (Second Nil))
+    → b ≡ kept a → Second Nil ≡ kept s
+    → y ≡ Second (views.expression_statement (given_form b (kept w)) (Second Nil))
     → y ≡ Second (Node AStatement (as_statement (last 4 (kept x))))
-no_mark x u v s a i z w y p q g e d h t r =
+no_mark x u v s a b i z w y p q g e d h c t r =
     let f = apart x u v s a i z w p q g e d h in
-    r ∙ ap (λ c. Second (views.expression_statement (given_form (kept a) (kept w)) c)) t
-    ∙ ap (λ c. Second (Node AStatement c)) (sym (statement_held x a w s f
+    r ∙ ap (λ j. Second (views.expression_statement (given_form j (kept w)) (Second Nil))) c
+    ∙ ap (λ j. Second (views.expression_statement (given_form (kept a) (kept w)) j)) t
+    ∙ ap (λ j. Second (Node AStatement j)) (sym (statement_held x a w s f
     ∙ other_statement (kept a) (kept w) (kept s) (has_attributes a (front_shaped x a w s g f))
     (nor _ _ (sym (ap is_there t)))))
 
-pub a_macro : (x u v s a i z w o m n : Tree) → is_called u a → is_called v i
+pub a_macro : (x u v s a b i z w o m n : Tree) → IsCalled u a → IsCalled v i
     → IsShaped x expression_entry → x ≡ Pair u (Pair v s) → i ≡ Node (Expression InStatement) z → z ≡ Whole w
-    → w ≡ Alone ExprMacro o → m ≡ kept o → First n ≡ kept s
-    → Second (Node AStatement (alternative 1 (kept a ▸ m ▸ First n)))
+    → b ≡ kept a → w ≡ Alone ExprMacro o → m ≡ kept o → First n ≡ kept s
+    → Second (Node AStatement (alternative 1 (b ▸ m ▸ First n)))
     ≡ Second (Node AStatement (as_statement (last 4 (kept x))))
-a_macro x u v s a i z w o m n p q g e d h c b t =
+a_macro x u v s a b i z w o m n p q g e d h l c r t =
     let f = apart x u v s a i z w p q g e d h in
-    ap (λ y. Second (Node AStatement (alternative 1 (kept a ▸ y ▸ First n)))) b
+    ap (λ y. Second (Node AStatement (alternative 1 (y ▸ m ▸ First n)))) l
+    ∙ ap (λ y. Second (Node AStatement (alternative 1 (kept a ▸ y ▸ First n)))) r
     ∙ ap (λ y. Second (Node AStatement y)) (sym (statement_held x a w s f
     ∙ ap (λ y. expression_statement (kept a) (Node (Expression Plain) (Whole (kept y))) (kept s)) c
     ∙ ap (expression_statement (kept a) (Node (Expression Plain) (Whole (Alone ExprMacro (kept o))))) (sym t)))
