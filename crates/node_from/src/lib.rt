@@ -21,7 +21,6 @@ pub mod bounds;
 pub mod exprs;
 pub mod fn_pointers;
 pub mod lists;
-pub mod macros;
 pub mod names;
 pub mod paths;
 pub mod qualified;

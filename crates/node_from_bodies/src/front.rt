@@ -5,7 +5,7 @@ ghost use Rattle.node_views.specs.Paths.{attribute, inner_of, outer};
 ghost use Rattle.node_views.specs.Statements.{behind_outer};
 ghost use Rattle.node_words.specs.Words.{turns};
 ghost use Rattle.reader_tree.specs.Size.{node_count};
-ghost use Rattle.std.specs.Prelude.{[], ◌++◌, ◌≡◌, ◌≤◌, IfOk};
+ghost use Rattle.std.specs.Prelude.{[], ◌≡◌, ◌≤◌, IfOk};
 ghost use Rattle.syn_grammar.specs.Kept.{kept};
 ghost use Rattle.syn_grammar.specs.Kind as k;
 ghost use Rattle.syn_grammar.specs.Table.{table};
@@ -24,7 +24,7 @@ use std::alloc::AllocError;
 /// # Errors
 ///
 /// Where there is no memory for them.
-#[tactic(auto, using(crate::proofs::FrontAttributes::in_front), unfolding(syn_grammar::specs::Table::table, syn_grammar::specs::Kept::held, syn_kinds::specs::Table::marks, syn_kinds::specs::Table::sign, syn_kinds::specs::Table::word))]
+#[tactic(auto, unfolding(syn_grammar::specs::Table::table, syn_grammar::specs::Kept::held, syn_kinds::specs::Table::marks, syn_kinds::specs::Table::sign, syn_kinds::specs::Table::word))]
 pub fn front_attributes<E: Drop, R: Maker<E>>(
     below: &R,
     own: &Tree<'_>,
@@ -43,20 +43,4 @@ pub fn front_attributes<E: Drop, R: Maker<E>>(
     attrs.push(first)?;
     attrs.append(&mut others)?;
     Ok(attrs)
-}
-
-/// Puts attributes in front of others.
-///
-/// # Errors
-///
-/// Where there is no memory for them.
-pub fn put_in_front<E: Drop>(
-    mut front: Vec<Attribute<E>>,
-    attrs: &mut Vec<Attribute<E>>,
-) -> Result<(), AllocError>
-    ensures { IfOk result (λ _. attrs.new.items ≡ front.items ++ attrs.old.items) }
-{
-    front.append(attrs)?;
-    *attrs = front;
-    Ok(())
 }

@@ -1,8 +1,6 @@
 //! Nodes of trees that were read: patterns, and forms of expressions.
 //!
 //! - `lists`: what makes the elements of lists.
-//! - `picked`: elements before a last one of another kind.
-//! - `members`: members of structs.
 //! - `literals`: literals, with or without a minus.
 //! - `names`: patterns that are names or literals.
 //! - `patterns`: `_`, `..`, references, and patterns in parentheses and brackets.
@@ -20,12 +18,10 @@ pub mod front;
 pub mod jumps;
 pub mod lists;
 pub mod literals;
-pub mod members;
 pub mod names;
 pub mod operators;
 pub mod params;
 pub mod patterns;
-pub mod picked;
 
 ghost use Rattle.node_from_bodies.specs.StatementParts.{a_statement};
 ghost use Rattle.node_shapes.specs.Shape.{IsShaped};

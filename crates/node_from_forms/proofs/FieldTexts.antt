@@ -1,17 +1,16 @@
 -- The indices of a text, each that of a field behind what stands before.
 use Rattle.std.specs.Prelude.{◌≡◌, ◌<◌, ◌&&◌, ◌+◌, ℕ, Bool, true, false, List, [], ◌∷◌, Option, Some}
 use Rattle.std.specs.Prelude.{◌==◌, None, drop, if◌then◌else◌, length, nat_lt, refl}
-use Rattle.std.proofs.Common.{ap, arith, get_or, subst, sym, ◌∙◌}
+use Rattle.std.proofs.Common.{ap, arith, get_or, sym, ◌∙◌}
 use Rattle.std.proofs.lemmas.Bool.{false≢true}
 use Rattle.std.proofs.lemmas.Bool.Decides.{nat_tests}
 use Rattle.std.proofs.lemmas.List.{drop_more}
-use Rattle.proc_macro2.specs.Token.{Token}
 use Rattle.syn_grammar.specs.Gram.{literal}
 use Rattle.syn_grammar.specs.Kept.{fields_in_front, index_field, index_fields, kept}
 use Rattle.syn_grammar.specs.Tree.{Tree, ALiteral, Again}
 use Rattle.syn_grammar.specs.Words.{are_indices, before_dot, behind_dots, indices, indices_to_dot, integer, is_below}
 use Rattle.syn_grammar.specs.Words.{or_zero, plain_decimal, texts_of}
-use Rattle.reader_tokens.specs.Texts.{IsFrom, Reads}
+use Rattle.reader_tokens.specs.Texts.{Reads}
 use Rattle.reader_tokens.proofs.Dots.{at_dot_is, behind_last, behind_more}
 use Rattle.reader_tree.specs.Forms.{turns}
 use Rattle.node_shapes.specs.Shape.{IsShaped}

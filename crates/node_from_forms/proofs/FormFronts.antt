@@ -1,5 +1,5 @@
 -- Attributes in front of a form.
-use Rattle.std.specs.Prelude.{◌≡◌, ◌++◌, ℕ, Bool, true, false, List, [], ◌∷◌, refl}
+use Rattle.std.specs.Prelude.{◌≡◌, ◌++◌, ℕ, true, false, List, [], ◌∷◌, refl}
 use Rattle.std.proofs.Common.{ap, sym, ◌∙◌}
 use Rattle.std.proofs.lemmas.Bool.{false≢true}
 use Rattle.syn_grammar.specs.Kept.{dotted, fields_in_front, index_field, index_fields, kept}
@@ -18,7 +18,7 @@ use Rattle.node_take.specs.declared.form.Before.TheVariants as befores
 use Rattle.node_views.specs.Paths.{attribute, outer}
 use Rattle.node_views.specs.Statements.{attributed, behind_outer}
 use Rattle.node_words.specs.Words.{turns}
-use Rattle.node_from_bodies.proofs.FrontAttributes.{inner_in_front, outer_in_front}
+use Rattle.node_from_parts.proofs.InFront.{inner_in_front, outer_in_front}
 use Rattle.node_from_forms.specs.Fronts.{gives_attributes, is_bare}
 
 -- in front of those of a node

@@ -1,5 +1,5 @@
 -- A name alone is a path of that name.
-use Rattle.std.specs.Prelude.{◌≡◌, ◌||◌, ℕ, Bool, true, false, List, [], ◌∷◌, codes, cond, not, refl}
+use Rattle.std.specs.Prelude.{◌≡◌, ◌||◌, ℕ, Bool, true, false, List, codes, cond, not, refl}
 use Rattle.std.proofs.Common.{ap, sym, ◌∙◌}
 use Rattle.syn_grammar.specs.Kept.{as_path, kept}
 use Rattle.syn_grammar.specs.Kind as k

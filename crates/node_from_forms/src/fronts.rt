@@ -9,7 +9,7 @@ ghost use Rattle.std.specs.Prelude.{[], ◌≡◌, IfOk, true};
 
 use node_expressions::expr::Expr;
 use node_from_bodies::Maker;
-use node_from_bodies::front::put_in_front;
+use node_from_parts::fronts::put_in_front;
 use node_paths::attribute::Attribute;
 use std::alloc::AllocError;
 

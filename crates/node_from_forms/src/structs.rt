@@ -22,8 +22,8 @@ use node_from::attributes::outer_attributes;
 use node_from::exprs::expression;
 use node_from::qualified::any_path;
 use node_from_bodies::Maker;
-use node_from_bodies::members::member;
-use node_from_bodies::picked::{Pick, picked};
+use node_from_parts::members::member;
+use node_from_parts::picked::{Pick, picked};
 use node_paths::attribute::Attribute;
 use node_take as take;
 use node_take::form::Formed;
@@ -206,7 +206,7 @@ impl<'r, E: Drop, R: Maker<E>> Pick<FieldValue<E>> for FieldValues<'r, R> {
 /// # Errors
 ///
 /// Where there is no memory for them.
-#[tactic(auto, using(node_from_bodies::proofs::Picked::ends, crate::proofs::FieldValues::lists), unfolding(syn_grammar::specs::Table::table, syn_grammar::specs::Kept::held, syn_kinds::specs::Table::marks, syn_kinds::specs::Table::sign, syn_kinds::specs::Table::word))]
+#[tactic(auto, using(node_from_parts::proofs::Picked::ends, crate::proofs::FieldValues::lists), unfolding(syn_grammar::specs::Table::table, syn_grammar::specs::Kept::held, syn_kinds::specs::Table::marks, syn_kinds::specs::Table::sign, syn_kinds::specs::Table::word))]
 pub fn field_values<E: Drop, R: Maker<E>>(
     below: &R,
     tree: &Tree<'_>,

@@ -1,5 +1,5 @@
 -- Alternatives, each behind a | but the first.
-use Rattle.std.specs.Prelude.{◌≡◌, ◌≤◌, ◌<◌, ◌+◌, ◌++◌, ℕ, suc, Bool, List, [], ◌∷◌, drop, length, refl}
+use Rattle.std.specs.Prelude.{◌≡◌, ◌≤◌, ◌<◌, ◌+◌, ◌++◌, ℕ, suc, List, [], ◌∷◌, drop, length, refl}
 use Rattle.std.proofs.Common.{ap, arith, get_or, sym, ◌∙◌}
 use Rattle.std.proofs.lemmas.List.{drop_all, drop_more}
 use Rattle.syn_grammar.specs.Kept.{kept}

@@ -1,5 +1,5 @@
 -- Attributes in front of a pattern, and in front of those of a node.
-use Rattle.std.specs.Prelude.{◌≡◌, ◌++◌, Bool, true, List, [], ◌∷◌, refl}
+use Rattle.std.specs.Prelude.{◌≡◌, ◌++◌, true, List, [], ◌∷◌, refl}
 use Rattle.std.proofs.Common.{ap, sym, ◌∙◌}
 use Rattle.std.proofs.lemmas.Bool.{false≢true}
 use Rattle.syn_grammar.specs.Gram.{ref}
@@ -11,7 +11,7 @@ use Rattle.node_shapes.specs.Shape.{IsShaped}
 use Rattle.node_views.specs.Paths.{attribute, outer}
 use Rattle.node_views.specs.Patterns.{behind_attributes, behind_turns}
 use Rattle.node_words.specs.Words.{turns}
-use Rattle.node_from_bodies.proofs.FrontAttributes.{outer_in_front}
+use Rattle.node_from_parts.proofs.InFront.{outer_in_front}
 use Rattle.node_from_patterns.specs.PatternForms.{is_one}
 
 none_in_front : {E : Type 0} (f : E → Tree) (xs : List (Attribute E)) (y : Tree)

@@ -17,8 +17,8 @@ ghost use Rattle.syn_grammar.specs.Tree as t;
 use node_from::attributes::outer_attributes;
 use node_from::{What, child};
 use node_from_bodies::Maker;
-use node_from_bodies::members::member;
-use node_from_bodies::picked::{Pick, picked};
+use node_from_parts::members::member;
+use node_from_parts::picked::{Pick, picked};
 use node_paths::attribute::Attribute;
 use node_patterns::Pat;
 use node_patterns::fields::FieldPat;
@@ -185,7 +185,7 @@ impl<'r, E: Drop, R: Maker<E>> Pick<FieldPat<E>> for FieldPats<'r, R> {
 /// # Errors
 ///
 /// Where there is no memory for them.
-#[tactic(auto, using(node_from_bodies::proofs::Picked::ends, crate::proofs::FieldLists::lists), unfolding(syn_grammar::specs::Table::table, syn_grammar::specs::Kept::held, syn_kinds::specs::Table::marks, syn_kinds::specs::Table::sign, syn_kinds::specs::Table::word))]
+#[tactic(auto, using(node_from_parts::proofs::Picked::ends, crate::proofs::FieldLists::lists), unfolding(syn_grammar::specs::Table::table, syn_grammar::specs::Kept::held, syn_kinds::specs::Table::marks, syn_kinds::specs::Table::sign, syn_kinds::specs::Table::word))]
 pub fn field_patterns<E: Drop, R: Maker<E>>(
     below: &R,
     tree: &Tree<'_>,

@@ -1,5 +1,5 @@
 -- A statement's expression, with the attributes in front of it.
-use Rattle.std.specs.Prelude.{not, ◌≡◌, ℕ, Bool, true, false, ◌&&◌, cond, nat_eq, List, [], ◌∷◌, Option, Some, None}
+use Rattle.std.specs.Prelude.{not, ◌≡◌, ℕ, Bool, true, false, ◌&&◌, cond, nat_eq, List, [], ◌∷◌, Option, Some}
 use Rattle.std.specs.Prelude.{refl}
 use Rattle.std.proofs.Common.{ap, subst, sym, ◌∙◌}
 use Rattle.std.proofs.lemmas.Bool.{false≢true}
@@ -8,7 +8,6 @@ use Rattle.syn_grammar.specs.Forms.{level}
 use Rattle.syn_grammar.specs.Gram.{ref}
 use Rattle.syn_grammar.specs.Kept.{as_statement, attributed, dotted, expression_statement, fields_in_front, held}
 use Rattle.syn_grammar.specs.Kept.{index_field, index_fields, is_macro, is_there, kept}
-use Rattle.syn_grammar.specs.Kind as k
 use Rattle.syn_grammar.specs.Kind.{Kind, Expression, InStatement, Plain, ExprField, ExprMethodCall, ExprAwait, ExprCast}
 use Rattle.syn_grammar.specs.Kind.{AStatement, ExprAttributed, ExprMacro, OuterAttributes}
 use Rattle.syn_grammar.specs.Name.{Part, the_attributes, the_expression, the_indices, the_value}

@@ -1,7 +1,6 @@
 -- Items among statements: a macro that has a name of its own is the first alternative, and another one the fourth.
 use Rattle.std.specs.Prelude.{◌≡◌, ℕ, Bool, true, false, not, List, [], ◌∷◌, cond, refl}
 use Rattle.std.proofs.Common.{ap, subst, sym, ◌∙◌}
-use Rattle.std.proofs.lemmas.Bool.{false≢true}
 use Rattle.syn_grammar.specs.Gram.{ref}
 use Rattle.syn_grammar.specs.Kept.{dotted, fields_in_front, held, index_field, index_fields, kept}
 use Rattle.syn_grammar.specs.Kind as k
@@ -9,13 +8,11 @@ use Rattle.syn_grammar.specs.Kind.{Kind, ExprField, ExprMethodCall, ExprAwait, I
 use Rattle.syn_grammar.specs.Name.{the_indices, the_value}
 use Rattle.syn_grammar.specs.Part.{choice}
 use Rattle.syn_grammar.specs.Table.{table}
-use Rattle.syn_grammar.specs.Tree as t
 use Rattle.syn_grammar.specs.Tree.{Tree, ALiteral, Back, Called, First, Node, Pair, Second, Verbatim}
 use Rattle.syn_grammar.specs.Words.{before_dot, behind_dots, texts_of}
 use Rattle.node_shapes.specs.Forms.{is_named_item}
 use Rattle.node_shapes.specs.Shape.{IsShaped}
 use Rattle.node_views.specs.Statements.{is_named, is_named_macro, item_statement}
-use Rattle.node_words.specs.Words.{alternative}
 
 -- a form with an operand before it is kept as one
 

@@ -1,4 +1,4 @@
-use Rattle.std.proofs.Common.{◌≡◌, ◌<◌, ◌≤◌, ◌+◌, ◌++◌, ◌∷◌, [], ◌∙◌, ap, arith, length, suc, sym}
+use Rattle.std.proofs.Common.{◌≡◌, ◌<◌, ◌+◌, ◌++◌, ◌∷◌, [], ◌∙◌, ap, arith, length, suc, sym}
 use Rattle.node_take.proofs.Lists.{length_more, turn_fewer, turn_shaped}
 use Rattle.node_from_patterns.specs.PatternForms.{behind_vert}
 use Rattle.node_from_patterns.proofs.Alternatives.{case_put}

@@ -8,7 +8,7 @@ use Rattle.reader_tree.specs.Forms.{elements}
 use Rattle.reader_tree.specs.Size.{node_count}
 use Rattle.node_shapes.specs.Shape.{IsShaped}
 use Rattle.node_words.specs.Words.{all_listed}
-use Rattle.node_from_bodies.proofs.picked.picked.Given as goal
+use Rattle.node_from_parts.proofs.picked.picked.Given as goal
 
 -- what was put, before what is left, is all of them; and what is left has the shape of a list, and passes
 abbrev pub invariant-loop-element : goal.invariant-loop-element

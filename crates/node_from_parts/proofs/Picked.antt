@@ -1,7 +1,7 @@
 -- Elements that a mark follows, each of which passes a test.
 use Rattle.std.specs.Prelude.{◌≡◌, ◌≤◌, ◌<◌, ◌+◌, ◌++◌, ◌&&◌, ℕ, Bool, true, false, List, [], ◌∷◌, drop, length}
-use Rattle.std.specs.Prelude.{Option, Some, None, refl}
-use Rattle.std.proofs.Common.{ap, arith, get_or, subst, sym, ◌∙◌}
+use Rattle.std.specs.Prelude.{refl}
+use Rattle.std.proofs.Common.{ap, arith, get_or, sym, ◌∙◌}
 use Rattle.std.proofs.lemmas.Bool.{false≢true}
 use Rattle.std.proofs.lemmas.List.{drop_all, drop_more}
 use Rattle.proc_macro2.specs.Token.{Token}

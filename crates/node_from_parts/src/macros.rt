@@ -9,8 +9,8 @@ ghost use Rattle.syn_grammar.specs.Gram as g;
 ghost use Rattle.syn_grammar.specs.Kept.{kept};
 ghost use Rattle.syn_grammar.specs.Kind as k;
 
-use crate::Reader;
-use crate::segments::path;
+use node_from::Reader;
+use node_from::segments::path;
 use node_paths::mac::{Macro, MacroDelimiter};
 use node_raw::raw;
 use node_take as take;

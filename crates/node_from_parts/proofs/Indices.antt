@@ -2,14 +2,14 @@
 use Rattle.std.specs.Prelude.{◌≡◌, ◌<◌, ◌==◌, ℕ, Bool, true, false, List, [], ◌∷◌, Option, Some, None}
 use Rattle.std.specs.Prelude.{if◌then◌else◌, nat_lt, refl}
 use Rattle.std.specs.Fmt.{decimal}
-use Rattle.std.proofs.Common.{ap, arith, subst, sym, ◌∙◌}
+use Rattle.std.proofs.Common.{ap, arith, sym, ◌∙◌}
 use Rattle.std.proofs.lemmas.Bool.{false≢true}
 use Rattle.std.proofs.lemmas.Bool.Decides.{nat_tests}
 use Rattle.syn_grammar.specs.Gram.{literal}
 use Rattle.syn_grammar.specs.Kept.{kept, plain_index, plain_member}
-use Rattle.syn_grammar.specs.Tree.{Tree, ALiteral, First, Second}
+use Rattle.syn_grammar.specs.Tree.{Tree, ALiteral, Second}
 use Rattle.syn_grammar.specs.Words.{before_dot, behind_dots, integer, is_index, or_zero, plain_decimal}
-use Rattle.reader_tokens.specs.Texts.{IsFrom, Reads}
+use Rattle.reader_tokens.specs.Texts.{Reads}
 use Rattle.reader_tokens.proofs.Dots.{index_left, no_index}
 use Rattle.node_shapes.specs.Shape.{IsShaped}
 
