@@ -20,6 +20,7 @@ use crate::named::{expr_macro, expr_path};
 use crate::postfix::{expr_await, expr_field, expr_method_call};
 use crate::structs::expr_struct;
 use node_expressions::expr::Expr;
+use node_expressions::operator::ExprRange;
 use node_from::exprs::{
     ParenOrTuple, expr_array, expr_call, expr_index, expr_reference, expr_repeat, expr_try,
     expr_unary, paren_or_tuple,
@@ -41,10 +42,7 @@ use std::alloc::AllocError;
 use syn_leaf::operators::RangeLimits;
 
 // Parentheses: an expression in them, or a tuple.
-fn in_parentheses<E: Drop, R: Maker<E>>(
-    below: &R,
-    own: &Tree<'_>,
-) -> Result<Expr<E>, AllocError>
+fn in_parentheses<E: Drop, R: Maker<E>>(below: &R, own: &Tree<'_>) -> Result<Expr<E>, AllocError>
     requires ready { R.ready below.now }
     requires own { IsShaped own.now (table k.ExprParen) }
     requires fewer { node_count own.now ≤ R.bound below.now }
@@ -54,6 +52,17 @@ fn in_parentheses<E: Drop, R: Maker<E>>(
         ParenOrTuple::Paren(paren) => Ok(Expr::Paren(paren)),
         ParenOrTuple::Tuple(tuple) => Ok(Expr::Tuple(tuple)),
     }
+}
+
+// A range without a start and an end.
+#[tactic(auto, unfolding(syn_grammar::specs::Table::table, syn_grammar::specs::Kept::held, syn_kinds::specs::Table::marks, syn_kinds::specs::Table::sign, syn_kinds::specs::Table::word))]
+fn full_range<E: Drop, R: Maker<E>>(below: &R, own: &Tree<'_>) -> Result<ExprRange<E>, AllocError>
+    requires ready { R.ready below.now }
+    requires own { IsShaped own.now (table k.ExprRange) }
+    ensures { IfOk result (λ x. views.expr_range R.view x ≡ t.Alone k.ExprRange (kept own.now)) }
+{
+    let limits = RangeLimits::HalfOpen(take::sign(own));
+    expr_range(below, None, limits, None)
 }
 
 // An atom.
@@ -93,10 +102,7 @@ fn atom<E: Drop, R: Maker<E>>(
         Alone::Break => Ok(Expr::Break(expr_break(below, own, None)?)),
         Alone::Return => Ok(Expr::Return(expr_return(below, own, None)?)),
         Alone::Yield => Ok(Expr::Yield(expr_yield(below, own, None)?)),
-        Alone::Range => {
-            let limits = RangeLimits::HalfOpen(take::sign(own));
-            Ok(Expr::Range(expr_range(below, None, limits, None)?))
-        }
+        Alone::Range => Ok(Expr::Range(full_range(below, own)?)),
     }
 }
 

@@ -8,7 +8,7 @@ ghost use Rattle.proc_macro2.specs.Token.{Token};
 ghost use Rattle.reader_tree.specs.Size.{node_count};
 ghost use Rattle.std.specs.Prelude.{◌≡◌, ◌≤◌, Bool, IfOk, List, true};
 ghost use Rattle.syn_grammar.specs.Gram as g;
-ghost use Rattle.syn_grammar.specs.Kept.{kept};
+ghost use Rattle.syn_grammar.specs.Kept.{kept, wild};
 ghost use Rattle.syn_grammar.specs.Kind as k;
 
 use crate::ranges::{literal_pattern, range_to};
@@ -20,10 +20,13 @@ use node_from_bodies::patterns::{pat_reference, pat_rest, pat_slice, pat_tuple, 
 use node_from_parts::fronts::put_in_front;
 use node_paths::attribute::Attribute;
 use node_patterns::Pat;
+use node_patterns::kinds::PatWild;
 use node_take as take;
 use reader_table::kind::Kind;
 use reader_tree::tree::Tree;
+use rust_map::span::Span;
 use std::alloc::AllocError;
+use syn_kinds::underscore::Underscore;
 
 /// A pattern that is one alternative.
 ///
@@ -48,6 +51,16 @@ pub fn one_pattern<E: Drop, R: Maker<E>>(below: &R, tree: &Tree<'_>) -> Result<P
         6 => Ok(Pat::Reference(pat_reference(below, own)?)),
         7 => literal_pattern(below, own),
         _ => path_pattern(below, own),
+    }
+}
+
+/// The pattern `_`, where none is written.
+pub fn left_out<E: Drop, R: Maker<E>>(below: &R, span: Span) -> PatWild<E>
+    ensures { views.pat_wild R.view result ≡ wild }
+{
+    PatWild {
+        attrs: Vec::new(below.alloc()),
+        underscore_token: Underscore { span },
     }
 }
 
