@@ -4,3 +4,4 @@ pub mod FieldTexts
 pub mod FieldValues
 pub mod FormFronts
 pub mod Names
+pub mod TypedClosures

@@ -85,7 +85,7 @@ pub fn expr_closure<E: Drop, R: Maker<E>>(
 /// # Errors
 ///
 /// Where there is no memory for it.
-#[tactic(auto, using(crate::proofs::BlockForms::blocks), unfolding(syn_grammar::specs::Table::table, syn_grammar::specs::Kept::held, syn_kinds::specs::Table::marks, syn_kinds::specs::Table::sign, syn_kinds::specs::Table::word))]
+#[tactic(auto, using(crate::proofs::TypedClosures::types), unfolding(syn_grammar::specs::Table::table, syn_grammar::specs::Kept::held, syn_kinds::specs::Table::marks, syn_kinds::specs::Table::sign, syn_kinds::specs::Table::word))]
 pub fn expr_typed_closure<E: Drop, R: Maker<E>>(
     below: &R,
     own: &Tree<'_>,

@@ -1,5 +1,5 @@
 -- Variables: their patterns, and the values before else.
-use Rattle.std.specs.Prelude.{◌≡◌, ℕ, Bool, true, false, not, ◌&&◌, List, Option, Some, None, cond, refl}
+use Rattle.std.specs.Prelude.{◌≡◌, ℕ, Bool, true, false, not, ◌&&◌, List, [], Option, Some, None, cond, refl}
 use Rattle.std.specs.declared.boxed.Box.{Box}
 use Rattle.std.proofs.Common.{ap, sym, ◌∙◌}
 use Rattle.std.proofs.lemmas.Bool.{false≢true}
@@ -16,6 +16,8 @@ use Rattle.syn_grammar.specs.Types.{kept_if}
 use Rattle.syn_kinds.specs.declared.keyword.Keyword.{Keyword}
 use Rattle.node_shapes.proofs.Braces.{open_kept}
 use Rattle.node_shapes.specs.Shape.{AreForms, IsShaped}
+use Rattle.node_paths.specs.declared.attribute.Attribute.{Attribute}
+use Rattle.node_views.specs.Paths.{outer_attributes}
 use Rattle.node_views.specs.Statements.{closed, diverge, in_parens, let_pattern, let_value}
 use Rattle.node_words.specs.Words.{absent, expression, optional}
 use Rattle.node_from_statements.specs.StatementParts.{else_part, initial, typed}
@@ -28,7 +30,16 @@ untyped (Node k.OnePattern x) y h = refl
 untyped (Node _ x) y h = cc (h.0)
 untyped _ y h = absurd h
 
-pub ruleset patterns = (untyped)
+-- one with a type
+
+pub typed_pattern : {E : Type 0} (f : E → Tree) (xs : List (Attribute E)) (v p m x y : Tree) → xs ≡ []
+    → v ≡ Node k.ClosureParam (Pair (outer_attributes f xs) (Pair p (First (Pair m x))))
+    → let_pattern v y ≡ Pair p (Pair (First (Pair m (Called the_type x))) y)
+typed_pattern f xs v p m x y h e =
+    ap (λ z. let_pattern z y)
+    (e ∙ ap (λ us. Node k.ClosureParam (Pair (outer_attributes f us) (Pair p (First (Pair m x))))) h)
+
+pub ruleset patterns = (untyped, typed_pattern)
 
 -- named parts stand in few places
 
