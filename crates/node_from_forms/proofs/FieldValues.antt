@@ -30,7 +30,7 @@ use Rattle.node_take.specs.Forms.{alone_kind}
 use Rattle.node_take.specs.declared.form.Alone.{Alone}
 use Rattle.node_take.specs.declared.form.Alone.TheVariants as alones
 use Rattle.node_views.specs.Expressions.{a_field_value, field_base, fields_then}
-use Rattle.node_words.specs.Words.{all_listed}
+use Rattle.node_words.specs.Words.{all_listed, list}
 use Rattle.node_from_parts.proofs.Picked.{picked_before}
 use Rattle.node_from_forms.specs.StructParts.{IsBaseOf, entry_tree}
 use Rattle.node_from_forms.specs.declared.structs.Entry.{Entry}
@@ -105,19 +105,19 @@ ended : (i : Tree) (es : List Element) (o p : Option (Bor Tree)) → i ≡ eleme
     → kept (elements 44 es (ending (λ b. b.now) p)) ≡ kept i
 ended i es o p e d = sym (ap kept (e ∙ ap (λ q. elements 44 es (ending (λ b. b.now) q)) d))
 
-pub no_base : {E P A : Type 0} (f : E → Tree) (l : Punctuated (FieldValue E) P) (i : Tree) (es : List Element)
+pub no_base : {E P : Type 0} (f : E → Tree) (l : Punctuated (FieldValue E) P) (i : Tree) (es : List Element)
     (o : Option (Bor Tree)) → i ≡ elements 44 es (ending (λ b. b.now) o) → o ≡ None
     → length l.values.items ≡ length l.separators.items → Picked (a_field_value f) l.values.items es
-    → fields_then {A = A} f l None None ≡ kept i
+    → list (a_field_value f) l ≡ kept i
 no_base f l i es o e d n h =
     listed_all 44 (a_field_value f) l.values.items l.separators.items n ∙ h t.End ∙ ended i es o None e d
 
-pub one_more : {E P A : Type 0} (f : E → Tree) (l m : Punctuated (FieldValue E) P) (v : FieldValue E) (i : Tree)
+pub one_more : {E P : Type 0} (f : E → Tree) (l m : Punctuated (FieldValue E) P) (v : FieldValue E) (i : Tree)
     (es : List Element) (o : Option (Bor Tree)) (x : Bor Tree)
     → i ≡ elements 44 es (ending (λ b. b.now) o) → o ≡ Some x
     → length l.values.items ≡ length l.separators.items → Picked (a_field_value f) l.values.items es
     → m.values.items ≡ l.values.items ++ v ∷ [] → m.separators.items ≡ l.separators.items
-    → a_field_value f v ≡ kept x.now → fields_then {A = A} f m None None ≡ kept i
+    → a_field_value f v ≡ kept x.now → list (a_field_value f) m ≡ kept i
 one_more f l m v i es o x e d n h p q r =
     picked_before 44 (a_field_value f) l.values.items m.values.items v l.separators.items m.separators.items
     (kept x.now) (kept i) n p q r (h (t.Final x.now) ∙ ended i es o (Some x) e d)
