@@ -220,30 +220,30 @@ pub fn field_values<E: Drop, R: Maker<E>>(
     let (brace_token, inside) = take::group(enclosed);
     let Listed { before, last } = take::elements(',', inside);
     let mut fields = picked(&FieldValues { below }, ',', before)?;
-    let Some(last) = last else {
-        return Ok(Values {
+    match last {
+        None => Ok(Values {
             brace_token,
             fields,
             dot2_token: None,
             rest: None,
-        });
-    };
-    match field_or_base(below, last)? {
-        Entry::Field(field) => {
-            fields.push_value(field)?;
-            Ok(Values {
+        }),
+        Some(last) => match field_or_base(below, last)? {
+            Entry::Field(field) => {
+                fields.push_value(field)?;
+                Ok(Values {
+                    brace_token,
+                    fields,
+                    dot2_token: None,
+                    rest: None,
+                })
+            }
+            Entry::Base(dots, rest) => Ok(Values {
                 brace_token,
                 fields,
-                dot2_token: None,
-                rest: None,
-            })
-        }
-        Entry::Base(dots, rest) => Ok(Values {
-            brace_token,
-            fields,
-            dot2_token: Some(dots),
-            rest,
-        }),
+                dot2_token: Some(dots),
+                rest,
+            }),
+        },
     }
 }
 

@@ -7,7 +7,7 @@ ghost use Rattle.node_views.specs.Patterns as views;
 ghost use Rattle.node_words.specs.Words as words;
 ghost use Rattle.node_words.specs.Words.{◌▸◌};
 ghost use Rattle.reader_tree.specs.Size.{node_count};
-ghost use Rattle.std.specs.Prelude.{◌≡◌, ◌<◌, ◌≤◌, IfOk, not, true};
+ghost use Rattle.std.specs.Prelude.{◌≡◌, ◌≤◌, IfOk, not, true};
 ghost use Rattle.syn_grammar.specs.Gram as g;
 ghost use Rattle.syn_grammar.specs.Kept.{kept};
 ghost use Rattle.syn_grammar.specs.Kind as k;
@@ -199,26 +199,26 @@ pub fn field_patterns<E: Drop, R: Maker<E>>(
     let (brace_token, inside) = take::group(enclosed);
     let Listed { before, last } = take::elements(',', inside);
     let mut fields = picked(&FieldPats { below }, ',', before)?;
-    let Some(last) = last else {
-        return Ok(Fields {
+    match last {
+        None => Ok(Fields {
             brace_token,
             fields,
             rest: None,
-        });
-    };
-    match field_or_rest(below, last)? {
-        Entry::Field(field) => {
-            fields.push_value(field)?;
-            Ok(Fields {
+        }),
+        Some(last) => match field_or_rest(below, last)? {
+            Entry::Field(field) => {
+                fields.push_value(field)?;
+                Ok(Fields {
+                    brace_token,
+                    fields,
+                    rest: None,
+                })
+            }
+            Entry::Rest(rest) => Ok(Fields {
                 brace_token,
                 fields,
-                rest: None,
-            })
-        }
-        Entry::Rest(rest) => Ok(Fields {
-            brace_token,
-            fields,
-            rest: Some(rest),
-        }),
+                rest: Some(rest),
+            }),
+        },
     }
 }
