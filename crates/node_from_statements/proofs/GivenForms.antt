@@ -3,6 +3,7 @@ use Rattle.std.specs.Prelude.{not, ◌≡◌, ℕ, Bool, true, false, ◌&&◌, 
 use Rattle.std.specs.Prelude.{refl}
 use Rattle.std.proofs.Common.{ap, subst, sym, ◌∙◌}
 use Rattle.std.proofs.lemmas.Bool.{false≢true}
+use Rattle.proc_macro2.specs.Token.{Spanned}
 use Rattle.syn_grammar.specs.Alternatives.{a_macro_statement, an_expression}
 use Rattle.syn_grammar.specs.Forms.{level}
 use Rattle.syn_grammar.specs.Gram.{ref}
@@ -12,7 +13,7 @@ use Rattle.syn_grammar.specs.Kind.{Kind, Expression, InStatement, Plain, ExprFie
 use Rattle.syn_grammar.specs.Kind.{AStatement, ExprAttributed, ExprMacro, OuterAttributes}
 use Rattle.syn_grammar.specs.Name.{Part, the_attributes, the_expression, the_indices, the_value}
 use Rattle.syn_grammar.specs.Table.{table}
-use Rattle.syn_grammar.specs.Tree.{Tree, ALiteral, Raw, Nil, Pair, First, Second, End, Again, Called, Node, Whole, Alone}
+use Rattle.syn_grammar.specs.Tree.{Tree, ALiteral, Nil, Pair, First, Second, End, Again, Called, Node, Whole, Alone}
 use Rattle.syn_grammar.specs.Tree.{Front, Back, Infix}
 use Rattle.syn_grammar.specs.Words.{before_dot, behind_dots, texts_of}
 use Rattle.syn_kinds.specs.declared.punctuation.Punctuation.{Punctuation}
@@ -27,7 +28,7 @@ use Rattle.node_take.specs.declared.form.Between.{Between}
 use Rattle.node_take.specs.declared.form.Between.TheVariants as betweens
 use Rattle.node_views.specs.Statements as views
 use Rattle.node_views.specs.Statements.{behind_outer, lone_or, semicolon}
-use Rattle.node_words.specs.Words.{alternative, last, mark, optional, ◌▸◌}
+use Rattle.node_words.specs.Words.{alternative, last, mark, optional, raw, ◌▸◌}
 use Rattle.node_from_bodies.specs.Operands.{is_range}
 use Rattle.node_from_statements.specs.Given.{given_form, goes_left, is_formed}
 use Rattle.node_from_statements.specs.StatementParts.{an_expression as expression_entry}
@@ -202,8 +203,9 @@ pub ruleset lone = (lone_given)
 
 -- no tokens before a ; are one
 
-pub lone_mark : (x : Tree) (m : Punctuation 36 1) → x ≡ Raw [] → lone_or x (Some m) ≡ First (mark m)
-lone_mark x m e = ap (λ y. lone_or y (Some m)) e
+pub lone_mark : (x : Tree) (ts : List Spanned) (m : Punctuation 36 1) → x ≡ raw ts → ts ≡ []
+    → lone_or x (Some m) ≡ First (mark m)
+lone_mark x ts m e h = ap (λ y. lone_or y (Some m)) (e ∙ ap raw h)
 
 pub ruleset semicolons = (lone_mark)
 
