@@ -31,7 +31,7 @@ use Rattle.node_take.specs.declared.form.Alone.{Alone}
 use Rattle.node_take.specs.declared.form.Alone.TheVariants as alones
 use Rattle.node_views.specs.Expressions.{a_field_value, field_base, fields_then}
 use Rattle.node_words.specs.Words.{all_listed, list}
-use Rattle.node_from_parts.proofs.Picked.{picked_before}
+use Rattle.node_from_parts.proofs.PickedLists.{picked_before}
 use Rattle.node_from_forms.specs.StructParts.{IsBaseOf, entry_tree}
 use Rattle.node_from_forms.specs.declared.structs.Entry.{Entry}
 use Rattle.node_from_forms.specs.declared.structs.Entry.TheVariants as entries

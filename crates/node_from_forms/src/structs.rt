@@ -206,7 +206,7 @@ impl<'r, E: Drop, R: Maker<E>> Pick<FieldValue<E>> for FieldValues<'r, R> {
 /// # Errors
 ///
 /// Where there is no memory for them.
-#[tactic(auto, using(node_from_parts::proofs::Picked::ends, crate::proofs::FieldValues::lists), unfolding(syn_grammar::specs::Table::table, syn_grammar::specs::Kept::held, syn_kinds::specs::Table::marks, syn_kinds::specs::Table::sign, syn_kinds::specs::Table::word))]
+#[tactic(auto, using(node_from_parts::proofs::PickedLists::ends, crate::proofs::FieldValues::lists), unfolding(syn_grammar::specs::Table::table, syn_grammar::specs::Kept::held, syn_kinds::specs::Table::marks, syn_kinds::specs::Table::sign, syn_kinds::specs::Table::word))]
 pub fn field_values<E: Drop, R: Maker<E>>(
     below: &R,
     tree: &Tree<'_>,

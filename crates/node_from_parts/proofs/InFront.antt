@@ -12,9 +12,10 @@ outer_in_front (x ∷ xs) ys h =
 pub inner_in_front : {E : Type 0} (xs ys : List (Attribute E)) → inner_of xs ≡ []
     → inner_of (xs ++ ys) ≡ inner_of ys
 inner_in_front [] ys h = refl
-inner_in_front (x ∷ xs) ys h = by (is_outer x.style) h
+inner_in_front (x ∷ xs) ys h = by (is_outer x.style) (inner_in_front xs ys) h
   where
-    by : (b : Bool) → cond b (inner_of xs) (x ∷ inner_of xs) ≡ []
+    by : (b : Bool) → (inner_of xs ≡ [] → inner_of (xs ++ ys) ≡ inner_of ys)
+        → cond b (inner_of xs) (x ∷ inner_of xs) ≡ []
         → cond b (inner_of (xs ++ ys)) (x ∷ inner_of (xs ++ ys)) ≡ inner_of ys
-    by true g = inner_in_front xs ys g
-    by false g = cc g
+    by true r g = r g
+    by false r g = cc g

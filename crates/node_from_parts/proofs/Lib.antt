@@ -1,3 +1,3 @@
 pub mod InFront
 pub mod Indices
-pub mod Picked
+pub mod PickedLists

@@ -56,7 +56,7 @@ pub trait Pick<T> {
 /// # Errors
 ///
 /// Where there is no memory for them.
-#[tactic(auto, using(node_take::proofs::Lists::steps, crate::proofs::Picked::picks))]
+#[tactic(auto, using(node_take::proofs::Lists::steps, crate::proofs::PickedLists::picks))]
 pub fn picked<T: Drop, M: Pick<T>, const K: usize>(
     maker: &M,
     mark: char,

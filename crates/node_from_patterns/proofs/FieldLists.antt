@@ -24,7 +24,7 @@ use Rattle.node_shapes.specs.Shape.{IsShaped}
 use Rattle.node_take.proofs.Lists.{listed_all}
 use Rattle.node_views.specs.Patterns.{field_list, field_pat, field_rest, one_pattern, shorthand}
 use Rattle.node_words.specs.Words.{◌▸◌, absent, all_listed, alternative}
-use Rattle.node_from_parts.proofs.Picked.{picked_before}
+use Rattle.node_from_parts.proofs.PickedLists.{picked_before}
 use Rattle.node_from_patterns.specs.PatternForms.{IsRestOf, entry_tree}
 use Rattle.node_from_patterns.specs.declared.fields.Entry.{Entry}
 use Rattle.node_from_patterns.specs.declared.fields.Entry.TheVariants as entries

@@ -1,5 +1,5 @@
 pub mod Alternatives
 pub mod FieldLists
 pub mod Fronts
-pub mod Ranges
+pub mod RangeBounds
 pub mod Whole

@@ -185,7 +185,7 @@ impl<'r, E: Drop, R: Maker<E>> Pick<FieldPat<E>> for FieldPats<'r, R> {
 /// # Errors
 ///
 /// Where there is no memory for them.
-#[tactic(auto, using(node_from_parts::proofs::Picked::ends, crate::proofs::FieldLists::lists), unfolding(syn_grammar::specs::Table::table, syn_grammar::specs::Kept::held, syn_kinds::specs::Table::marks, syn_kinds::specs::Table::sign, syn_kinds::specs::Table::word))]
+#[tactic(auto, using(node_from_parts::proofs::PickedLists::ends, crate::proofs::FieldLists::lists), unfolding(syn_grammar::specs::Table::table, syn_grammar::specs::Kept::held, syn_kinds::specs::Table::marks, syn_kinds::specs::Table::sign, syn_kinds::specs::Table::word))]
 pub fn field_patterns<E: Drop, R: Maker<E>>(
     below: &R,
     tree: &Tree<'_>,

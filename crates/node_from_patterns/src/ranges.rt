@@ -48,7 +48,7 @@ pub fn pat_path<E: Drop, R: Maker<E>>(below: &R, tree: &Tree<'_>) -> Result<PatP
 /// # Errors
 ///
 /// Where there is no memory for it.
-#[tactic(auto, using(crate::proofs::Ranges::bounds), unfolding(syn_grammar::specs::Table::table, syn_grammar::specs::Kept::held, syn_kinds::specs::Table::marks, syn_kinds::specs::Table::sign, syn_kinds::specs::Table::word))]
+#[tactic(auto, using(crate::proofs::RangeBounds::bounds), unfolding(syn_grammar::specs::Table::table, syn_grammar::specs::Kept::held, syn_kinds::specs::Table::marks, syn_kinds::specs::Table::sign, syn_kinds::specs::Table::word))]
 pub fn range_bound<E: Drop, R: Maker<E>>(below: &R, tree: &Tree<'_>) -> Result<Box<E>, AllocError>
     requires ready { R.ready below.now }
     requires shaped { IsShaped tree.now (g.ref k.RangeBound) }
@@ -114,7 +114,7 @@ fn range_end<E: Drop, R: Maker<E>>(
 /// # Errors
 ///
 /// Where there is no memory for it.
-#[tactic(auto, using(crate::proofs::Ranges::froms))]
+#[tactic(auto, using(crate::proofs::RangeBounds::froms))]
 pub fn range_from<E: Drop, R: Maker<E>>(
     below: &R,
     start: Pat<E>,
@@ -141,7 +141,7 @@ pub fn range_from<E: Drop, R: Maker<E>>(
 /// # Errors
 ///
 /// Where there is no memory for it.
-#[tactic(auto, using(crate::proofs::Ranges::literals), unfolding(syn_grammar::specs::Table::table, syn_grammar::specs::Kept::held, syn_kinds::specs::Table::marks, syn_kinds::specs::Table::sign, syn_kinds::specs::Table::word))]
+#[tactic(auto, using(crate::proofs::RangeBounds::literals), unfolding(syn_grammar::specs::Table::table, syn_grammar::specs::Kept::held, syn_kinds::specs::Table::marks, syn_kinds::specs::Table::sign, syn_kinds::specs::Table::word))]
 pub fn literal_pattern<E: Drop, R: Maker<E>>(
     below: &R,
     tree: &Tree<'_>,

@@ -10,7 +10,7 @@ use Rattle.syn_grammar.specs.Table.{table}
 use Rattle.syn_grammar.specs.Tree as t
 use Rattle.reader_tree.specs.Forms.{ending}
 use Rattle.node_shapes.specs.Shape.{IsShaped}
-use Rattle.node_from_parts.proofs.Picked.{end_passes, end_shaped}
+use Rattle.node_from_parts.proofs.PickedLists.{end_passes, end_shaped}
 use Rattle.node_from_forms.proofs.FieldValues.{fields_pass, fields_shaped}
 use Rattle.node_from_forms.proofs.structs.field_values.Goals as goal
 

@@ -5,7 +5,7 @@ use Rattle.syn_grammar.specs.Tree.{Tree, End}
 use Rattle.reader_tree.specs.Forms.{elements}
 use Rattle.node_words.specs.Words.{all_listed}
 use Rattle.node_take.proofs.Lists.{element_fewer, element_put, element_shaped, length_more}
-use Rattle.node_from_parts.proofs.Picked.{all_picked, element_passes}
+use Rattle.node_from_parts.proofs.PickedLists.{all_picked, element_passes}
 use Rattle.node_from_parts.proofs.picked.picked.Goals as goal
 
 pub loop-element-preserved : goal.loop-element-preserved
