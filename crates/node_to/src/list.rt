@@ -4,6 +4,7 @@ ghost use Rattle.node_to.specs.Elements.{element_of};
 ghost use Rattle.node_words.specs.Words as words;
 ghost use Rattle.reader_table.specs.Ops.{separator_of};
 ghost use Rattle.std.specs.Prelude.{◌≡◌, IfOk, map};
+ghost use Rattle.syn_grammar.specs.Tree as t;
 ghost use Rattle.syn_grammar.specs.Tree.{Tree as GivenTree};
 ghost use Rattle.syn_lists.specs.Lists.{values};
 
@@ -124,6 +125,24 @@ pub fn listed<'a, T, W: Way<T>, const K: usize>(
         }
         None => Ok(made::no_turns()),
     }
+}
+
+/// Values with a comma behind each, and another tree behind them.
+///
+/// # Errors
+///
+/// Where there is no memory for them.
+#[tactic(auto, using(crate::proofs::Lists::before_last))]
+pub fn all_listed<'a, T, W: Way<T>, const K: usize>(
+    arena: &'a Arena,
+    way: &W,
+    list: &'a Punctuated<T, Punctuation<K, 1>>,
+    last: Tree<'a>,
+) -> Result<Tree<'a>, AllocError>
+    ensures { IfOk result (λ x. x ≡ words.all_listed 44 W.tree list.now.values.items (t.Final last.entry)) }
+{
+    let before = elements(arena, way, list.as_slice(), list.separators())?;
+    made::elements(arena, Separator::Comma, before, Some(last))
 }
 
 /// Values with commas between them.

@@ -1,10 +1,14 @@
--- Forms, by what stands in them.
-use Rattle.std.specs.Prelude.{Bool, true, false}
+-- Forms, patterns and items, by what stands in them.
+use Rattle.std.specs.Prelude.{Bool, true, false, ◌&&◌, List, [], Option, Some, None, cond, is_some}
 use Rattle.proc_macro2.specs.declared.delimiter.Delimiter.{Delimiter}
+use Rattle.reader_tree.specs.Shapes.{node_of, pair_of, first_of}
 use Rattle.syn_grammar.specs.Kind as k
+use Rattle.syn_grammar.specs.Kind.{Kind}
+use Rattle.syn_grammar.specs.Name.{Part}
 use Rattle.syn_grammar.specs.Tree as t
 use Rattle.syn_grammar.specs.Tree.{Tree}
-use Rattle.node_words.specs.Words.{◌▸◌}
+use Rattle.node_words.specs.Words.{◌▸◌, absent}
+use Rattle.node_views.specs.Statements.{no_attributes}
 
 -- a block without a label, and without attributes within
 abbrev pub block_of : Delimiter → Tree → Tree
@@ -21,3 +25,48 @@ is_block _ = false
 abbrev pub is_outer_block : Tree → Bool
 is_outer_block (t.Front k.ExprAttributed a (t.Alone k.ExprBlock x)) = true
 is_outer_block _ = false
+
+-- a node of no attributes
+abbrev pub is_no_outer : Tree → Bool
+is_no_outer (t.Node k.OuterAttributes t.End) = true
+is_no_outer _ = false
+
+-- a pattern that says its type, behind its attributes
+abbrev pub typed_form : Tree → Tree → Tree → Tree → Tree
+typed_form a p m x = t.Node k.ClosureParam (a ▸ p ▸ t.First (m ▸ x))
+
+-- a parameter of a closure that doesn't
+abbrev pub untyped_parameter : Tree → Tree
+untyped_parameter (t.Pair a x) = a ▸ x ▸ absent
+untyped_parameter x = no_attributes ▸ x ▸ absent
+
+-- no tokens, which are kept as they are
+abbrev pub is_no_tokens : Tree → Bool
+is_no_tokens (t.Raw []) = true
+is_no_tokens _ = false
+
+-- a call of a macro as an item
+abbrev pub is_item_macro : Kind → Bool
+is_item_macro (k.ItemMacro p) = true
+is_item_macro _ = false
+
+-- what stands first behind these, in turn
+abbrev pub first_in : Option (Tree × Tree) → Option Tree
+first_in None = None
+first_in (Some p) = first_of p.0
+
+abbrev pub name_behind : Option (Tree × Tree) → Option Tree
+name_behind None = None
+name_behind (Some p) = first_in (pair_of p.1)
+
+-- of a macro's call, its path, its ! and what stands behind it, the name that stands there
+abbrev pub name_at : Option (Tree × Tree) → Option Tree
+name_at None = None
+name_at (Some p) = name_behind (pair_of p.1)
+
+abbrev pub name_in : Tree → Option Tree
+name_in x = name_at (pair_of x)
+
+-- an item behind its attributes and its visibility
+abbrev pub item_form : Tree → Tree → Part → Tree → Tree
+item_form a v n x = t.Node k.AnItem (t.First (a ▸ v ▸ t.Called n x))

@@ -1,10 +1,14 @@
-//! What is made of an expression's form where a condition, a statement or a value before `else` stands.
+//! What is made of an expression's form where a block, a statement or an operand of `else` stands.
 
 ghost use Rattle.node_views.specs.Expressions as views;
 ghost use Rattle.node_views.specs.Statements as statements;
 ghost use Rattle.std.specs.Prelude.{◌≡◌, IfOk};
+ghost use Rattle.syn_grammar.specs.Tree as t;
 
+use crate::sight::{is_block, is_outer_block, plain_block};
 use node_to::row::{self, whole};
+use node_to::sight::alone_inside;
+use node_to::step::absent;
 use proc_macro2::delimiter::Delimiter;
 use reader_table::kind::Kind;
 use reader_table::part::Part;
@@ -24,6 +28,43 @@ pub fn condition<'a>(arena: &'a Arena, form: Tree<'a>) -> Result<Tree<'a>, Alloc
     ensures { IfOk result (λ x. x ≡ views.condition form.entry) }
 {
     made::called(arena, Part::Condition, whole(arena, form)?)
+}
+
+/// A block where no attributes stand within it, and another expression as it is.
+///
+/// # Errors
+///
+/// Where there is no memory for it.
+#[tactic(auto, using(crate::proofs::Forms::blocks))]
+pub fn as_block<'a>(arena: &'a Arena, form: Tree<'a>) -> Result<Tree<'a>, AllocError>
+    ensures { IfOk result (λ x. x ≡ statements.as_block form.entry) }
+{
+    match plain_block(&form) {
+        Some(block) => {
+            let inside = block.statements.copy();
+            let group = made::group(arena, block.delimiter, block.group.span, inside)?;
+            made::node(arena, Kind::Block, group)
+        }
+        None => whole(arena, form),
+    }
+}
+
+/// What stands behind `else`: another `if`, or a block.
+///
+/// # Errors
+///
+/// Where there is no memory for it.
+#[tactic(auto, using(crate::proofs::Forms::operands))]
+pub fn else_operand<'a>(arena: &'a Arena, form: Tree<'a>) -> Result<Tree<'a>, AllocError>
+    ensures { IfOk result (λ x. x ≡ views.else_operand form.entry) }
+{
+    match alone_inside(Kind::ExprIf, &form) {
+        Some(own) => {
+            let node = made::node(arena, Kind::ExprIf, own.copy())?;
+            made::first(arena, node)
+        }
+        None => made::second(arena, as_block(arena, form)?),
+    }
 }
 
 /// An expression as a statement, and what stands behind it.
@@ -70,5 +111,44 @@ pub fn closed<'a>(arena: &'a Arena, form: Tree<'a>) -> Result<Tree<'a>, AllocErr
         in_parens(arena, form)
     } else {
         Ok(form)
+    }
+}
+
+// An expression as the one statement of a block, at the call site.
+fn in_braces<'a>(arena: &'a Arena, form: Tree<'a>) -> Result<Tree<'a>, AllocError>
+    ensures { IfOk result (λ x. x ≡ statements.in_braces form.entry) }
+{
+    let statement = expression_statement(arena, form, absent(arena)?)?;
+    let one = in_turn(arena, made::second(arena, statement)?)?;
+    let inside = made::node(arena, Kind::Statements, made::first(arena, one)?)?;
+    let span = Span::call_site();
+    let group = made::group(arena, Delimiter::Brace, span, inside)?;
+    made::node(arena, Kind::Block, group)
+}
+
+// One turn.
+fn in_turn<'a>(arena: &'a Arena, tree: Tree<'a>) -> Result<Tree<'a>, AllocError>
+    ensures { IfOk result (λ x. x ≡ t.Again tree.entry t.End) }
+{
+    let mut each = Vec::new(arena.alloc());
+    each.push(tree)?;
+    made::turns(arena, each)
+}
+
+/// What stands behind `else` of a variable: a block, or what braces are put round.
+///
+/// # Errors
+///
+/// Where there is no memory for it.
+#[tactic(auto, using(crate::proofs::Forms::else_blocks))]
+pub fn else_block<'a>(arena: &'a Arena, form: Tree<'a>) -> Result<Tree<'a>, AllocError>
+    ensures { IfOk result (λ x. x ≡ statements.else_block form.entry) }
+{
+    if is_block(&form) {
+        as_block(arena, form)
+    } else if is_outer_block(&form) {
+        whole(arena, form)
+    } else {
+        in_braces(arena, form)
     }
 }

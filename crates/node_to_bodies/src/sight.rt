@@ -1,16 +1,23 @@
 //! What a form is, where something else is made of it by that.
 
-ghost use Rattle.node_to_bodies.specs.Sights.{block_of, is_block, is_outer_block};
+ghost use Rattle.node_to_bodies.specs.Sights.{block_of, is_block, is_item_macro, is_no_outer, is_no_tokens};
+ghost use Rattle.node_to_bodies.specs.Sights.{is_outer_block, item_form, name_in, typed_form};
 ghost use Rattle.node_to.specs.Sights.{is_end};
+ghost use Rattle.node_views.specs.Statements as views;
 ghost use Rattle.proc_macro2.specs.declared.delimiter.Delimiter.{Delimiter as GivenDelimiter};
-ghost use Rattle.std.specs.Prelude.{◌≡◌, ◌≢◌, MatchOption};
+ghost use Rattle.reader_table.specs.Kinds.{kind_of};
+ghost use Rattle.reader_table.specs.Parts.{part_of};
+ghost use Rattle.std.specs.Prelude.{◌≡◌, ◌≢◌, MatchOption, option_map};
+ghost use Rattle.syn_grammar.specs.Name.{Part as GivenPart};
 ghost use Rattle.syn_grammar.specs.Tree.{Tree as GivenTree};
 
 use node_to::sight::{
-    alone_inside, front_inside, group_inside, is_absent, node_inside, pair_inside,
+    alone_inside, called_inside, first_inside, front_inside, group_inside, is_absent, node_inside,
+    pair_inside,
 };
 use proc_macro2::delimiter::Delimiter;
 use reader_table::kind::Kind;
+use reader_table::part::Part;
 use reader_tree::tree::{Enclosed, Form, Tree};
 
 // Whether it is no turn, and no element.
@@ -82,6 +89,127 @@ pub fn is_block(tree: &Tree<'_>) -> bool
 {
     match alone_inside(Kind::ExprBlock, tree) {
         Some(_) => true,
+        None => false,
+    }
+}
+
+/// Whether it is a node of no attributes.
+#[tactic(auto, using(crate::proofs::Patterns::attributes))]
+pub fn is_no_outer(tree: &Tree<'_>) -> bool
+    ensures { result ≡ is_no_outer tree.now }
+{
+    match node_inside(Kind::OuterAttributes, tree) {
+        Some(each) => is_end(each),
+        None => false,
+    }
+}
+
+/// A pattern that says its type, with the attributes in front of it.
+#[derive(Clone, Copy)]
+pub struct TypedPattern<'t, 'a> {
+    /// The attributes.
+    pub attributes: &'t Tree<'a>,
+    /// The pattern.
+    pub pattern: &'t Tree<'a>,
+    /// The `:`.
+    pub mark: &'t Tree<'a>,
+    /// The type.
+    pub ty: &'t Tree<'a>,
+}
+
+/// Of a pattern that says its type each of its parts.
+pub fn typed_pattern<'t, 'a>(tree: &'t Tree<'a>) -> Option<TypedPattern<'t, 'a>>
+    ensures { MatchOption result ((a p m x : GivenTree) → tree.now ≢ typed_form a p m x)
+        (λ y. tree.now ≡ typed_form y.attributes.now y.pattern.now y.mark.now y.ty.now) }
+{
+    let (attributes, behind) = pair_inside(node_inside(Kind::ClosureParam, tree)?)?;
+    let (pattern, typed) = pair_inside(behind)?;
+    let (mark, ty) = pair_inside(first_inside(typed)?)?;
+    Some(TypedPattern {
+        attributes,
+        pattern,
+        mark,
+        ty,
+    })
+}
+
+/// Whether it has no tokens, which are kept as they are.
+#[tactic(auto, using(crate::proofs::Statements::tokens))]
+pub fn is_no_tokens(tree: &Tree<'_>) -> bool
+    ensures { result ≡ is_no_tokens tree.now }
+{
+    match &tree.form {
+        Form::Raw(kept) => kept.entries.is_empty(),
+        _ => false,
+    }
+}
+
+// Whether a node of that kind is a call of a macro as an item.
+#[tactic(auto, using(crate::proofs::Statements::not_macro))]
+fn is_item_macro(kind: Kind) -> bool
+    ensures { result ≡ is_item_macro (kind_of kind) }
+{
+    matches!(kind, Kind::ItemMacro(_))
+}
+
+// Of a macro's call, its path, its `!` and what stands behind it, the name that stands there.
+#[tactic(auto, using(crate::proofs::Statements::named))]
+fn name_inside<'t, 'a>(tree: &'t Tree<'a>) -> Option<&'t Tree<'a>>
+    ensures { option_map (λ x. x.now) result ≡ name_in tree.now }
+{
+    let (_, behind) = tree.pair()?;
+    let (_, named) = behind.pair()?;
+    let (name, _) = named.pair()?;
+    name.first()
+}
+
+// Whether the item is a call of a macro, with a name of its own.
+#[tactic(auto, using(crate::proofs::Statements::named))]
+fn is_named(tree: &Tree<'_>) -> bool
+    ensures { result ≡ views.is_named tree.now }
+{
+    match tree.node() {
+        Some((kind, inner)) => is_item_macro(kind) && name_inside(inner).is_some(),
+        None => false,
+    }
+}
+
+// An item with what stands in front of it.
+#[derive(Clone, Copy)]
+struct ItemParts<'t, 'a> {
+    // Its attributes.
+    attributes: &'t Tree<'a>,
+    // Its visibility.
+    visibility: &'t Tree<'a>,
+    // Its name among the parts.
+    part: Part,
+    // What it is.
+    inner: &'t Tree<'a>,
+}
+
+// Of an item each of its parts.
+fn item_parts<'t, 'a>(tree: &'t Tree<'a>) -> Option<ItemParts<'t, 'a>>
+    ensures { MatchOption result ((a v x : GivenTree) (n : GivenPart) → tree.now ≢ item_form a v n x)
+        (λ y. tree.now ≡ item_form y.attributes.now y.visibility.now (part_of y.part) y.inner.now) }
+{
+    let (attributes, behind) = pair_inside(first_inside(node_inside(Kind::AnItem, tree)?)?)?;
+    let (visibility, item) = pair_inside(behind)?;
+    let (part, inner) = called_inside(item)?;
+    Some(ItemParts {
+        attributes,
+        visibility,
+        part,
+        inner,
+    })
+}
+
+/// Whether the item is a call of a macro, with a name of its own, behind its attributes.
+#[tactic(auto, using(crate::proofs::Statements::named))]
+pub fn is_named_macro(tree: &Tree<'_>) -> bool
+    ensures { result ≡ views.is_named_macro tree.now }
+{
+    match item_parts(tree) {
+        Some(item) => is_named(item.inner.choice()),
         None => false,
     }
 }

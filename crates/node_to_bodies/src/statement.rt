@@ -1,0 +1,245 @@
+//! Statements as trees.
+
+ghost use Rattle.node_views.specs.Statements as views;
+ghost use Rattle.node_words.specs.Words as words;
+ghost use Rattle.std.specs.Prelude.{◌≡◌, IfOk};
+
+use crate::form::{closed, else_block, expression_statement};
+use crate::pattern::let_pattern;
+use crate::sight::{is_named_macro, is_no_tokens};
+use crate::turn::turned;
+use node_expressions::block::Block;
+use node_expressions::statement::{Local, LocalInit, Stmt, StmtMacro};
+use node_to::attributes::outer_attributes;
+use node_to::leaf::sign;
+use node_to::list::Way;
+use node_to::row::{self, whole};
+use node_to::step::absent;
+use node_to::to_tree::ToTree;
+use reader_table::kind::Kind;
+use reader_table::part::Part;
+use reader_table::word::Sign;
+use reader_tree::arena::Arena;
+use reader_tree::made;
+use reader_tree::tree::Tree;
+use std::alloc::AllocError;
+use syn_kinds::token;
+
+// The `;` behind a statement, if it is there.
+#[tactic(auto, unfolding(syn_kinds::specs::Table::marks, syn_kinds::specs::Table::sign))]
+fn semicolon<'a>(arena: &'a Arena, held: &Option<token::Semi>) -> Result<Tree<'a>, AllocError>
+    ensures { IfOk result (λ x. x ≡ words.optional views.semicolon held.now) }
+{
+    match held {
+        None => absent(arena),
+        Some(token) => {
+            let mark = sign(Sign::Semi, token)?;
+            made::first(arena, made::called(arena, Part::Semicolon, mark)?)
+        }
+    }
+}
+
+// The value of a variable: before `else`, one that ends in braces is put in parentheses.
+fn let_value<'a, E: ToTree>(
+    arena: &'a Arena,
+    node: &'a LocalInit<E>,
+) -> Result<Tree<'a>, AllocError>
+    ensures { IfOk result (λ x. x ≡ views.let_value node.now.diverge (E.tree node.now.expr.value)) }
+{
+    let value = node.expr.to_tree(arena)?;
+    match &node.diverge {
+        None => Ok(value),
+        Some(_) => closed(arena, value),
+    }
+}
+
+// `else` and a block, if they are there.
+fn diverge<'a, E: ToTree>(arena: &'a Arena, node: &'a LocalInit<E>) -> Result<Tree<'a>, AllocError>
+    ensures { IfOk result (λ x. x ≡ words.optional (views.diverge E.tree) node.now.diverge) }
+{
+    match &node.diverge {
+        None => absent(arena),
+        Some((token, form)) => {
+            let block = else_block(arena, form.to_tree(arena)?)?;
+            let both = made::pair(arena, token.to_tree(arena)?, block)?;
+            made::first(arena, made::called(arena, Part::Else, both)?)
+        }
+    }
+}
+
+/// What a variable becomes at first.
+///
+/// # Errors
+///
+/// Where there is no memory for it.
+#[tactic(auto, unfolding(syn_kinds::specs::Table::marks, syn_kinds::specs::Table::sign))]
+pub fn local_init<'a, E: ToTree>(
+    arena: &'a Arena,
+    node: &'a LocalInit<E>,
+) -> Result<Tree<'a>, AllocError>
+    ensures { IfOk result (λ x. x ≡ views.local_init E.tree node.now) }
+{
+    let value = whole(arena, let_value(arena, node)?)?;
+    row::three(
+        arena,
+        sign(Sign::Eq, &node.eq_token)?,
+        made::called(arena, Part::Value, value)?,
+        diverge(arena, node)?,
+    )
+}
+
+// What a variable becomes at first, if that is written.
+fn init<'a, E: ToTree>(arena: &'a Arena, node: &'a Local<E>) -> Result<Tree<'a>, AllocError>
+    ensures { IfOk result (λ x. x ≡ words.optional (views.local_init E.tree) node.now.init) }
+{
+    match &node.init {
+        None => absent(arena),
+        Some(init) => made::first(arena, local_init(arena, init)?),
+    }
+}
+
+/// A variable.
+///
+/// # Errors
+///
+/// Where there is no memory for it.
+#[tactic(auto, unfolding(syn_kinds::specs::Table::marks, syn_kinds::specs::Table::sign))]
+pub fn local<'a, E: ToTree>(arena: &'a Arena, node: &'a Local<E>) -> Result<Tree<'a>, AllocError>
+    ensures { IfOk result (λ x. x ≡ views.local E.tree node.now) }
+{
+    let mark = sign(Sign::Semi, &node.semi_token)?;
+    let behind = made::pair(arena, init(arena, node)?, mark)?;
+    let pattern = let_pattern(arena, node.pat.to_tree(arena)?, behind)?;
+    let parts = made::pair(arena, node.let_token.to_tree(arena)?, pattern)?;
+    let declared = made::node(arena, Kind::ALet, made::first(arena, parts)?)?;
+    made::pair(arena, outer_attributes(arena, &node.attrs)?, declared)
+}
+
+/// An item among statements: a macro with a name of its own stands elsewhere.
+///
+/// # Errors
+///
+/// Where there is no memory for it.
+pub fn item_statement<'a>(arena: &'a Arena, item: Tree<'a>) -> Result<Tree<'a>, AllocError>
+    ensures { IfOk result (λ x. x ≡ views.item_statement item.entry) }
+{
+    if is_named_macro(&item) {
+        made::first_behind(arena, 0, item)
+    } else {
+        made::first_behind(arena, 3, item)
+    }
+}
+
+/// An expression among statements: one of no tokens before a `;` is a lone `;`.
+///
+/// # Errors
+///
+/// Where there is no memory for it.
+#[tactic(auto, using(crate::proofs::Statements::lone), unfolding(syn_kinds::specs::Table::marks, syn_kinds::specs::Table::sign))]
+pub fn lone_or<'a>(
+    arena: &'a Arena,
+    form: Tree<'a>,
+    token: &Option<token::Semi>,
+) -> Result<Tree<'a>, AllocError>
+    ensures { IfOk result (λ x. x ≡ views.lone_or form.entry token.now) }
+{
+    match token {
+        Some(mark) => {
+            if is_no_tokens(&form) {
+                return made::first(arena, sign(Sign::Semi, mark)?);
+            }
+            let behind = semicolon(arena, token)?;
+            made::second(arena, expression_statement(arena, form, behind)?)
+        }
+        None => {
+            let behind = semicolon(arena, token)?;
+            made::second(arena, expression_statement(arena, form, behind)?)
+        }
+    }
+}
+
+/// A call of a macro as a statement.
+///
+/// # Errors
+///
+/// Where there is no memory for it.
+pub fn stmt_macro<'a, E: ToTree>(
+    arena: &'a Arena,
+    node: &'a StmtMacro<E>,
+) -> Result<Tree<'a>, AllocError>
+    ensures { IfOk result (λ x. x ≡ views.stmt_macro E.tree node.now) }
+{
+    row::three(
+        arena,
+        outer_attributes(arena, &node.attrs)?,
+        node.mac.to_tree(arena)?,
+        semicolon(arena, &node.semi_token)?,
+    )
+}
+
+/// A statement.
+///
+/// # Errors
+///
+/// Where there is no memory for it.
+pub fn stmt<'a, E: ToTree>(arena: &'a Arena, node: &'a Stmt<E>) -> Result<Tree<'a>, AllocError>
+    ensures { IfOk result (λ x. x ≡ views.stmt E.tree node.now) }
+{
+    match node {
+        Stmt::Item(item) => {
+            let inner = item_statement(arena, item.to_tree(arena)?)?;
+            made::node(arena, Kind::AStatement, inner)
+        }
+        Stmt::Macro(node) => {
+            let inner = made::first_behind(arena, 1, stmt_macro(arena, node)?)?;
+            made::node(arena, Kind::AStatement, inner)
+        }
+        Stmt::Local(node) => {
+            let inner = made::first_behind(arena, 2, local(arena, node)?)?;
+            made::node(arena, Kind::AStatement, inner)
+        }
+        Stmt::Expr(form, token) => {
+            let behind = semicolon(arena, token)?;
+            expression_statement(arena, form.to_tree(arena)?, behind)
+        }
+    }
+}
+
+// A statement among others.
+fn block_stmt<'a, E: ToTree>(arena: &'a Arena, node: &'a Stmt<E>) -> Result<Tree<'a>, AllocError>
+    ensures { IfOk result (λ x. x ≡ views.block_stmt E.tree node.now) }
+{
+    match node {
+        Stmt::Expr(form, token) => lone_or(arena, form.to_tree(arena)?, token),
+        Stmt::Item(_) => made::second(arena, stmt(arena, node)?),
+        Stmt::Macro(_) => made::second(arena, stmt(arena, node)?),
+        Stmt::Local(_) => made::second(arena, stmt(arena, node)?),
+    }
+}
+
+/// The statements of a block.
+///
+/// # Errors
+///
+/// Where there is no memory for them.
+pub fn statements<'a, E: ToTree>(
+    arena: &'a Arena,
+    node: &'a Block<E>,
+) -> Result<Tree<'a>, AllocError>
+    ensures { IfOk result (λ x. x ≡ views.statements E.tree node.now) }
+{
+    let each = turned(arena, &AsStatement, &node.stmts)?;
+    made::node(arena, Kind::Statements, made::first(arena, each)?)
+}
+
+/// As a statement among others.
+#[derive(Clone, Copy)]
+pub struct AsStatement;
+
+impl<E: ToTree> Way<Stmt<E>> for AsStatement {
+    ghost tree = { views.block_stmt E.tree };
+
+    fn make<'a>(&self, arena: &'a Arena, value: &'a Stmt<E>) -> Result<Tree<'a>, AllocError> {
+        block_stmt(arena, value)
+    }
+}
