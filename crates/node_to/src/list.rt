@@ -187,15 +187,35 @@ pub fn expressions<'a, T: ToTree, const K: usize>(
     listed(arena, Separator::Comma, &AsExpression, list)
 }
 
-// The trees that these values are.
-fn trees<'a, T: ToTree>(arena: &'a Arena, values: &'a [T]) -> Result<Vec<Tree<'a>>, AllocError>
-    ensures { IfOk result (λ ts. ts.items ≡ map T.tree values.now) }
+// The trees that these values are there.
+fn trees<'a, T, W: Way<T>>(
+    arena: &'a Arena,
+    way: &W,
+    values: &'a [T],
+) -> Result<Vec<Tree<'a>>, AllocError>
+    ensures { IfOk result (λ ts. ts.items ≡ map (W.tree) values.now) }
 {
     let mut each = Vec::new(arena.alloc());
     for value in values {
-        each.push(value.to_tree(arena)?)?;
+        each.push(way.make(arena, value)?)?;
     }
     Ok(each)
+}
+
+/// Values one behind the other, each in that way.
+///
+/// # Errors
+///
+/// Where there is no memory for them.
+#[tactic(auto, using(crate::proofs::Lists::turns_of))]
+pub fn turned<'a, T, W: Way<T>>(
+    arena: &'a Arena,
+    way: &W,
+    values: &'a [T],
+) -> Result<Tree<'a>, AllocError>
+    ensures { IfOk result (λ x. x ≡ words.turns W.tree values.now) }
+{
+    made::turns(arena, trees(arena, way, values)?)
 }
 
 /// Values one behind the other.
@@ -203,9 +223,8 @@ fn trees<'a, T: ToTree>(arena: &'a Arena, values: &'a [T]) -> Result<Vec<Tree<'a
 /// # Errors
 ///
 /// Where there is no memory for them.
-#[tactic(auto, using(crate::proofs::Lists::turns_of))]
 pub fn turns<'a, T: ToTree>(arena: &'a Arena, values: &'a [T]) -> Result<Tree<'a>, AllocError>
     ensures { IfOk result (λ x. x ≡ words.turns T.tree values.now) }
 {
-    made::turns(arena, trees(arena, values)?)
+    turned(arena, &AsItIs, values)
 }

@@ -1,4 +1,0 @@
-pub mod Ends
-pub mod Forms
-pub mod Patterns
-pub mod Statements

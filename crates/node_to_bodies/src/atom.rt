@@ -9,9 +9,9 @@ use node_expressions::atom::{
 use node_to::attributes::attributed;
 use node_to::leaf::sign;
 use node_to::list::expressions;
-use node_to::qualified::any_path;
 use node_to::row::{self, enclosed, whole};
 use node_to::to_tree::ToTree;
+use node_to_types::qualified::any_path;
 use proc_macro2::delimiter::Delimiter;
 use reader_table::kind::Kind;
 use reader_table::word::Sign;

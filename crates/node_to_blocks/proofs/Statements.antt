@@ -19,7 +19,7 @@ use Rattle.syn_grammar.specs.Tree.{Tree}
 use Rattle.syn_kinds.specs.declared.punctuation.Punctuation.{Punctuation}
 use Rattle.node_words.specs.Words.{mark, optional}
 use Rattle.node_to.proofs.Sights.{node_is}
-use Rattle.node_to_bodies.specs.Sights.{is_item_macro, is_no_tokens, item_form, name_in}
+use Rattle.node_to_blocks.specs.Sights.{is_item_macro, is_no_tokens, item_form, name_in}
 use Rattle.node_views.specs.Statements.{expression_statement, is_named, is_named_macro, lone_or, semicolon}
 
 -- no tokens

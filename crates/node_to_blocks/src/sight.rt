@@ -1,9 +1,9 @@
-//! What a form is, where something else is made of it by that.
+//! What a form, a pattern or an item is, where something else is made of it by that.
 
-ghost use Rattle.node_to_bodies.specs.Sights.{block_of, is_block, is_item_macro, is_no_outer, is_no_tokens};
-ghost use Rattle.node_to_bodies.specs.Sights.{is_outer_block, item_form, name_in, typed_form};
-ghost use Rattle.node_to.specs.Sights.{is_end};
+ghost use Rattle.node_to_blocks.specs.Sights.{is_block, is_item_macro, is_no_outer, is_no_tokens};
+ghost use Rattle.node_to_blocks.specs.Sights.{is_outer_block, item_form, name_in, typed_form};
 ghost use Rattle.node_views.specs.Statements as views;
+ghost use Rattle.node_words.specs.Blocks.{block_of};
 ghost use Rattle.proc_macro2.specs.declared.delimiter.Delimiter.{Delimiter as GivenDelimiter};
 ghost use Rattle.reader_table.specs.Kinds.{kind_of};
 ghost use Rattle.reader_table.specs.Parts.{part_of};
@@ -12,32 +12,13 @@ ghost use Rattle.syn_grammar.specs.Name.{Part as GivenPart};
 ghost use Rattle.syn_grammar.specs.Tree.{Tree as GivenTree};
 
 use node_to::sight::{
-    alone_inside, called_inside, first_inside, front_inside, group_inside, is_absent, node_inside,
-    pair_inside,
+    alone_inside, called_inside, first_inside, front_inside, group_inside, is_absent, is_end,
+    node_inside, pair_inside,
 };
 use proc_macro2::delimiter::Delimiter;
 use reader_table::kind::Kind;
 use reader_table::part::Part;
 use reader_tree::tree::{Enclosed, Form, Tree};
-
-// Whether it is no turn, and no element.
-#[tactic(auto, using(node_to::proofs::Sights::ends, crate::proofs::Ends::lists))]
-fn is_end(tree: &Tree<'_>) -> bool
-    ensures { result ≡ is_end tree.now }
-{
-    match &tree.form {
-        Form::End => true,
-        Form::Turns(turns) => match turns.each {
-            [] => true,
-            [_, ..] => false,
-        },
-        Form::Elements(list) => match list.before {
-            [] => list.last.is_none(),
-            [_, ..] => false,
-        },
-        _ => false,
-    }
-}
 
 /// Statements in braces, with their delimiter, what that encloses, and the statements.
 #[derive(Clone, Copy)]

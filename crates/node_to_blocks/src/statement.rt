@@ -3,16 +3,16 @@
 ghost use Rattle.node_views.specs.Statements as views;
 ghost use Rattle.node_words.specs.Words as words;
 ghost use Rattle.std.specs.Prelude.{◌≡◌, IfOk};
+ghost use Rattle.syn_grammar.specs.Tree as t;
 
-use crate::form::{closed, else_block, expression_statement};
+use crate::form::{closed, else_block_of, expression_statement};
 use crate::pattern::let_pattern;
 use crate::sight::{is_named_macro, is_no_tokens};
-use crate::turn::turned;
 use node_expressions::block::Block;
 use node_expressions::statement::{Local, LocalInit, Stmt, StmtMacro};
 use node_to::attributes::outer_attributes;
 use node_to::leaf::sign;
-use node_to::list::Way;
+use node_to::list::{Way, turned};
 use node_to::row::{self, whole};
 use node_to::step::absent;
 use node_to::to_tree::ToTree;
@@ -60,7 +60,7 @@ fn diverge<'a, E: ToTree>(arena: &'a Arena, node: &'a LocalInit<E>) -> Result<Tr
     match &node.diverge {
         None => absent(arena),
         Some((token, form)) => {
-            let block = else_block(arena, form.to_tree(arena)?)?;
+            let block = else_block_of(arena, form)?;
             let both = made::pair(arena, token.to_tree(arena)?, block)?;
             made::first(arena, made::called(arena, Part::Else, both)?)
         }
@@ -98,21 +98,41 @@ fn init<'a, E: ToTree>(arena: &'a Arena, node: &'a Local<E>) -> Result<Tree<'a>,
     }
 }
 
+// What stands behind the pattern of a variable.
+#[tactic(auto, unfolding(syn_kinds::specs::Table::marks, syn_kinds::specs::Table::sign))]
+fn behind_pattern<'a, E: ToTree>(
+    arena: &'a Arena,
+    node: &'a Local<E>,
+) -> Result<Tree<'a>, AllocError>
+    ensures { IfOk result (λ x. x ≡ t.Pair (words.optional (views.local_init E.tree) node.now.init)
+        (words.mark node.now.semi_token)) }
+{
+    let mark = sign(Sign::Semi, &node.semi_token)?;
+    made::pair(arena, init(arena, node)?, mark)
+}
+
+// The pattern of a variable, and what stands behind it.
+fn declared<'a, E: ToTree>(arena: &'a Arena, node: &'a Local<E>) -> Result<Tree<'a>, AllocError>
+    ensures { IfOk result (λ x. x ≡ views.let_pattern (E.tree node.now.pat.value)
+        (t.Pair (words.optional (views.local_init E.tree) node.now.init) (words.mark node.now.semi_token))) }
+{
+    let pattern = node.pat.to_tree(arena)?;
+    let behind = behind_pattern(arena, node)?;
+    let_pattern(arena, pattern, behind)
+}
+
 /// A variable.
 ///
 /// # Errors
 ///
 /// Where there is no memory for it.
-#[tactic(auto, unfolding(syn_kinds::specs::Table::marks, syn_kinds::specs::Table::sign))]
 pub fn local<'a, E: ToTree>(arena: &'a Arena, node: &'a Local<E>) -> Result<Tree<'a>, AllocError>
     ensures { IfOk result (λ x. x ≡ views.local E.tree node.now) }
 {
-    let mark = sign(Sign::Semi, &node.semi_token)?;
-    let behind = made::pair(arena, init(arena, node)?, mark)?;
-    let pattern = let_pattern(arena, node.pat.to_tree(arena)?, behind)?;
-    let parts = made::pair(arena, node.let_token.to_tree(arena)?, pattern)?;
-    let declared = made::node(arena, Kind::ALet, made::first(arena, parts)?)?;
-    made::pair(arena, outer_attributes(arena, &node.attrs)?, declared)
+    let declared = declared(arena, node)?;
+    let parts = made::pair(arena, node.let_token.to_tree(arena)?, declared)?;
+    let statement = made::node(arena, Kind::ALet, made::first(arena, parts)?)?;
+    made::pair(arena, outer_attributes(arena, &node.attrs)?, statement)
 }
 
 /// An item among statements: a macro with a name of its own stands elsewhere.

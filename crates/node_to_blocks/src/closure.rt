@@ -1,18 +1,21 @@
 //! Closures as trees.
 
 ghost use Rattle.node_views.specs.Expressions as views;
+ghost use Rattle.node_views.specs.Paths.{return_type};
+ghost use Rattle.node_views.specs.Statements.{as_block};
 ghost use Rattle.node_words.specs.Words as words;
 ghost use Rattle.std.specs.Prelude.{◌≡◌, IfOk};
+ghost use Rattle.syn_grammar.specs.Kind as k;
 ghost use Rattle.syn_grammar.specs.Tree as t;
 
-use crate::form::as_block;
+use crate::form::as_block_of;
 use crate::pattern::closure_param;
 use node_expressions::closure::ExprClosure;
 use node_paths::path::ReturnType;
 use node_to::attributes::attributed;
 use node_to::leaf::{optional, sign};
 use node_to::list::{Way, listed};
-use node_to::row;
+use node_to::{row, step};
 use node_to::to_tree::ToTree;
 use reader_table::kind::Kind;
 use reader_table::op::Separator;
@@ -74,6 +77,25 @@ fn closure_head<'a, E: ToTree>(
     )
 }
 
+// A closure whose body stands behind a type.
+fn typed_closure<'a, E: ToTree>(
+    arena: &'a Arena,
+    head: Tree<'a>,
+    node: &'a ExprClosure<E>,
+) -> Result<Tree<'a>, AllocError>
+    ensures { IfOk result (λ x. x ≡ t.Alone k.ExprTypedClosure (t.Pair head.entry
+        (t.Pair (return_type E.tree node.now.output) (as_block (E.tree node.now.body.value))))) }
+{
+    let returned = node.output.to_tree(arena);
+    let own = step::three(
+        arena,
+        Ok(head),
+        returned,
+        as_block_of(arena, &node.body),
+    );
+    step::alone(arena, Kind::ExprTypedClosure, own)
+}
+
 // The body behind that: an operand, and behind a type a block.
 fn closure<'a, E: ToTree>(
     arena: &'a Arena,
@@ -83,14 +105,12 @@ fn closure<'a, E: ToTree>(
     ensures { IfOk result (λ x. x ≡ views.closure E.tree node.now.output head.entry
         (E.tree node.now.body.value)) }
 {
-    let body = node.body.to_tree(arena)?;
     match &node.output {
-        ReturnType::Default => made::front(arena, Kind::ExprClosure, head, body),
-        ReturnType::Type(_, _) => {
-            let returned = node.output.to_tree(arena)?;
-            let own = row::three(arena, head, returned, as_block(arena, body)?)?;
-            made::alone(arena, Kind::ExprTypedClosure, own)
+        ReturnType::Default => {
+            let body = node.body.to_tree(arena)?;
+            made::front(arena, Kind::ExprClosure, head, body)
         }
+        ReturnType::Type(_, _) => typed_closure(arena, head, node),
     }
 }
 

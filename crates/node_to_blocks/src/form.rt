@@ -3,12 +3,14 @@
 ghost use Rattle.node_views.specs.Expressions as views;
 ghost use Rattle.node_views.specs.Statements as statements;
 ghost use Rattle.std.specs.Prelude.{◌≡◌, IfOk};
+ghost use Rattle.syn_grammar.specs.Kind as k;
 ghost use Rattle.syn_grammar.specs.Tree as t;
 
-use crate::sight::{is_block, is_outer_block, plain_block};
+use crate::sight::{PlainBlock, is_block, is_outer_block, plain_block};
 use node_to::row::{self, whole};
 use node_to::sight::alone_inside;
-use node_to::step::absent;
+use node_to::step::{self, absent};
+use node_to::to_tree::ToTree;
 use proc_macro2::delimiter::Delimiter;
 use reader_table::kind::Kind;
 use reader_table::part::Part;
@@ -30,41 +32,72 @@ pub fn condition<'a>(arena: &'a Arena, form: Tree<'a>) -> Result<Tree<'a>, Alloc
     made::called(arena, Part::Condition, whole(arena, form)?)
 }
 
+// Statements in braces, as they stand where no attributes stand within them.
+fn in_block<'a>(arena: &'a Arena, block: PlainBlock<'_, 'a>) -> Result<Tree<'a>, AllocError>
+    ensures { IfOk result (λ x. x ≡ t.Node k.Block (t.Group block.delimiter block.statements.now)) }
+{
+    let inside = block.statements.copy();
+    let group = made::group(arena, block.delimiter, block.group.span, inside)?;
+    made::node(arena, Kind::Block, group)
+}
+
 /// A block where no attributes stand within it, and another expression as it is.
 ///
 /// # Errors
 ///
 /// Where there is no memory for it.
-#[tactic(auto, using(crate::proofs::Forms::blocks))]
 pub fn as_block<'a>(arena: &'a Arena, form: Tree<'a>) -> Result<Tree<'a>, AllocError>
     ensures { IfOk result (λ x. x ≡ statements.as_block form.entry) }
 {
     match plain_block(&form) {
-        Some(block) => {
-            let inside = block.statements.copy();
-            let group = made::group(arena, block.delimiter, block.group.span, inside)?;
-            made::node(arena, Kind::Block, group)
-        }
+        Some(block) => in_block(arena, block),
         None => whole(arena, form),
     }
 }
 
-/// What stands behind `else`: another `if`, or a block.
+/// The same of what has such a form.
 ///
 /// # Errors
 ///
 /// Where there is no memory for it.
-#[tactic(auto, using(crate::proofs::Forms::operands))]
-pub fn else_operand<'a>(arena: &'a Arena, form: Tree<'a>) -> Result<Tree<'a>, AllocError>
+pub fn as_block_of<'a, T: ToTree>(arena: &'a Arena, node: &'a T) -> Result<Tree<'a>, AllocError>
+    ensures { IfOk result (λ x. x ≡ statements.as_block (T.tree node.now)) }
+{
+    let form = node.to_tree(arena)?;
+    as_block(arena, form)
+}
+
+// Another `if` behind `else`, of its own part.
+fn else_if<'a>(arena: &'a Arena, own: &Tree<'a>) -> Result<Tree<'a>, AllocError>
+    ensures { IfOk result (λ x. x ≡ t.First (t.Node k.ExprIf own.now)) }
+{
+    let node = made::node(arena, Kind::ExprIf, own.copy())?;
+    made::first(arena, node)
+}
+
+// What stands behind `else`: another `if`, or a block.
+fn else_operand<'a>(arena: &'a Arena, form: Tree<'a>) -> Result<Tree<'a>, AllocError>
     ensures { IfOk result (λ x. x ≡ views.else_operand form.entry) }
 {
     match alone_inside(Kind::ExprIf, &form) {
-        Some(own) => {
-            let node = made::node(arena, Kind::ExprIf, own.copy())?;
-            made::first(arena, node)
-        }
-        None => made::second(arena, as_block(arena, form)?),
+        Some(own) => else_if(arena, own),
+        None => step::second(arena, as_block(arena, form)),
     }
+}
+
+/// What stands behind `else`, of what has such a form: another `if`, or a block.
+///
+/// # Errors
+///
+/// Where there is no memory for it.
+pub fn else_operand_of<'a, T: ToTree>(
+    arena: &'a Arena,
+    node: &'a T,
+) -> Result<Tree<'a>, AllocError>
+    ensures { IfOk result (λ x. x ≡ views.else_operand (T.tree node.now)) }
+{
+    let form = node.to_tree(arena)?;
+    else_operand(arena, form)
 }
 
 /// An expression as a statement, and what stands behind it.
@@ -135,13 +168,8 @@ fn in_turn<'a>(arena: &'a Arena, tree: Tree<'a>) -> Result<Tree<'a>, AllocError>
     made::turns(arena, each)
 }
 
-/// What stands behind `else` of a variable: a block, or what braces are put round.
-///
-/// # Errors
-///
-/// Where there is no memory for it.
-#[tactic(auto, using(crate::proofs::Forms::else_blocks))]
-pub fn else_block<'a>(arena: &'a Arena, form: Tree<'a>) -> Result<Tree<'a>, AllocError>
+// What stands behind `else` of a variable: a block, or what braces are put round.
+fn else_block<'a>(arena: &'a Arena, form: Tree<'a>) -> Result<Tree<'a>, AllocError>
     ensures { IfOk result (λ x. x ≡ statements.else_block form.entry) }
 {
     if is_block(&form) {
@@ -151,4 +179,16 @@ pub fn else_block<'a>(arena: &'a Arena, form: Tree<'a>) -> Result<Tree<'a>, Allo
     } else {
         in_braces(arena, form)
     }
+}
+
+/// What stands behind `else` of a variable, of what has such a form: a block, or what braces are put round.
+///
+/// # Errors
+///
+/// Where there is no memory for it.
+pub fn else_block_of<'a, T: ToTree>(arena: &'a Arena, node: &'a T) -> Result<Tree<'a>, AllocError>
+    ensures { IfOk result (λ x. x ≡ statements.else_block (T.tree node.now)) }
+{
+    let form = node.to_tree(arena)?;
+    else_block(arena, form)
 }

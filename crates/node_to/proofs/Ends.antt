@@ -1,7 +1,7 @@
 -- Turns and elements of which some are there.
-use Rattle.std.specs.Prelude.{◌≡◌, ◌≤◌, ℕ, List, [], ◌∷◌, Option, Some, None, false, length, refl}
+use Rattle.std.specs.Prelude.{◌≡◌, ◌≤◌, ℕ, List, [], ◌∷◌, false, length, refl}
 use Rattle.std.proofs.Common.{arith}
-use Rattle.reader_tree.specs.Forms.{turns, elements, ending}
+use Rattle.reader_tree.specs.Forms.{turns, elements}
 use Rattle.reader_tree.specs.declared.tree.Element.{Element}
 use Rattle.syn_grammar.specs.Tree.{Tree}
 use Rattle.node_to.specs.Sights.{is_end}

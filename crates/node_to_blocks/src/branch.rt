@@ -7,16 +7,15 @@ ghost use Rattle.syn_grammar.specs.Name as n;
 ghost use Rattle.syn_grammar.specs.Tree as t;
 
 use crate::block::block;
-use crate::form::{condition, else_operand};
-use crate::pattern::several;
-use crate::turn::turned;
+use crate::form::{condition, else_operand_of};
 use node_expressions::branch::{Arm, ExprIf, ExprLet, ExprMatch};
 use node_to::attributes::{attributed, inner_attributes, outer_attributes};
 use node_to::leaf::sign;
-use node_to::list::Way;
+use node_to::list::{Way, turned};
 use node_to::row::{self, enclosed, whole};
 use node_to::step::absent;
 use node_to::to_tree::ToTree;
+use node_to_patterns::several::several;
 use reader_table::kind::Kind;
 use reader_table::part::Part;
 use reader_table::word::Sign;
@@ -33,7 +32,7 @@ fn else_branch<'a, E: ToTree>(arena: &'a Arena, node: &'a ExprIf<E>) -> Result<T
     match &node.else_branch {
         None => absent(arena),
         Some((token, operand)) => {
-            let operand = else_operand(arena, operand.to_tree(arena)?)?;
+            let operand = else_operand_of(arena, operand)?;
             let both = made::pair(arena, token.to_tree(arena)?, operand)?;
             made::first(arena, both)
         }

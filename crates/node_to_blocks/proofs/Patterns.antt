@@ -1,4 +1,4 @@
--- Patterns where alternatives may stand, and where a variable or a parameter is declared.
+-- Patterns where a variable or a parameter is declared.
 use Rattle.std.specs.Prelude.{◌≡◌, ◌≢◌, true, false, refl}
 use Rattle.syn_grammar.specs.Kind as k
 use Rattle.syn_grammar.specs.Name as n
@@ -6,20 +6,11 @@ use Rattle.syn_grammar.specs.Tree as t
 use Rattle.syn_grammar.specs.Tree.{Tree}
 use Rattle.node_to.specs.Sights.{is_end}
 use Rattle.node_words.specs.Words.{absent}
-use Rattle.node_to_bodies.specs.Sights.{is_no_outer, typed_form, untyped_parameter}
+use Rattle.node_to_blocks.specs.Sights.{is_no_outer, typed_form, untyped_parameter}
 use Rattle.node_views.specs.Expressions.{closure_param}
-use Rattle.node_views.specs.Patterns.{several}
 use Rattle.node_views.specs.Statements.{let_pattern, no_attributes, with_attributes}
 
-pub several_are : (x y : Tree) → x ≡ t.Node k.Pattern y → x ≡ several x
-several_are x y e = rw e refl
-
-pub several_one : (x : Tree) → ((y : Tree) → x ≢ t.Node k.Pattern y)
-    → t.Node k.Pattern (t.Pair absent (t.Pair x t.End)) ≡ several x
-several_one (t.Node k.Pattern y) h = absurd (h y refl)
-several_one x h = refl
-
-pub ruleset alternatives = (several_are, several_one)
+-- attributes
 
 pub no_outer_node : (y x : Tree) → y ≡ t.Node k.OuterAttributes x → is_end x ≡ is_no_outer y
 no_outer_node y t.End e = rw e refl
@@ -39,6 +30,8 @@ with_some a x e = refl
 
 pub ruleset attributes = (no_outer_node, no_outer_other, without, with_some)
 
+-- variables
+
 pub let_typed : (y a p m x z : Tree) → y ≡ typed_form a p m x
     → t.Pair (with_attributes a p) (t.Pair (t.First (t.Pair m (t.Called n.the_type x))) z) ≡ let_pattern y z
 let_typed y a p m x z e = rw e refl
@@ -48,7 +41,7 @@ pub let_other : (y z : Tree) → ((a p m x : Tree) → y ≢ typed_form a p m x)
 let_other (t.Node k.ClosureParam (t.Pair a (t.Pair p (t.First (t.Pair m x))))) z h = absurd (h a p m x refl)
 let_other y z h = refl
 
-pub ruleset typed = (let_typed, let_other)
+-- parameters
 
 pub param_is : (y x : Tree) → y ≡ t.Node k.ClosureParam x → y ≡ closure_param y
 param_is y x e = rw e refl
@@ -67,4 +60,6 @@ pub untyped_other : (y : Tree) → ((a x : Tree) → y ≢ t.Pair a x)
 untyped_other (t.Pair a x) h = absurd (h a x refl)
 untyped_other y h = refl
 
-pub ruleset parameters = (param_is, param_other, untyped_pair, untyped_other)
+pub ruleset params = (param_is, param_other)
+
+pub ruleset parameters = (untyped_pair, untyped_other)

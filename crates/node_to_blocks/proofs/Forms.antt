@@ -1,13 +1,22 @@
 -- Forms of expressions where a block stands.
-use Rattle.std.specs.Prelude.{◌≡◌, ◌≢◌, true, false, refl}
+use Rattle.std.specs.Prelude.{◌≡◌, ◌≢◌, true, false, IfOk, Result, Ok, Err, refl}
+use Rattle.std.proofs.Common.{◌∙◌}
 use Rattle.proc_macro2.specs.declared.delimiter.Delimiter.{Delimiter}
 use Rattle.syn_grammar.specs.Kind as k
 use Rattle.syn_grammar.specs.Tree as t
 use Rattle.syn_grammar.specs.Tree.{Tree}
+use Rattle.node_words.specs.Blocks.{block_of}
 use Rattle.node_words.specs.Words.{expression}
-use Rattle.node_to_bodies.specs.Sights.{block_of, is_block, is_outer_block}
+use Rattle.node_to_blocks.specs.Sights.{is_block, is_outer_block}
 use Rattle.node_views.specs.Expressions.{else_operand}
 use Rattle.node_views.specs.Statements.{as_block, else_block, in_braces}
+
+-- what a tree is, by what it is too
+pub if_ok : {A : Type 0} (r : Result Tree A) (y z : Tree) → y ≡ z → IfOk r (λ x. x ≡ y) → IfOk r (λ x. x ≡ z)
+if_ok (Ok v) y z e h = h ∙ e
+if_ok (Err v) y z e h = h
+
+-- blocks
 
 pub block_is : (y : Tree) (d : Delimiter) (x : Tree) → y ≡ block_of d x → t.Node k.Block (t.Group d x) ≡ as_block y
 block_is y d x e = rw e refl
@@ -17,7 +26,7 @@ block_other (t.Alone k.ExprBlock (t.Pair (t.Second t.Nil) (t.Node k.Body (t.Grou
     (t.Pair (t.Node k.InnerAttributes t.End) x))))) h = absurd (h d x refl)
 block_other y h = refl
 
-pub ruleset blocks = (block_is, block_other)
+-- what stands behind else
 
 pub if_is : (y x : Tree) → y ≡ t.Alone k.ExprIf x → t.First (t.Node k.ExprIf x) ≡ else_operand y
 if_is y x e = rw e refl
@@ -26,7 +35,7 @@ pub if_other : (y : Tree) → ((x : Tree) → y ≢ t.Alone k.ExprIf x) → t.Se
 if_other (t.Alone k.ExprIf x) h = absurd (h x refl)
 if_other y h = refl
 
-pub ruleset operands = (if_is, if_other)
+-- what a form is
 
 pub is_block_alone : (y x : Tree) → y ≡ t.Alone k.ExprBlock x → is_block y ≡ true
 is_block_alone y x e = rw e refl
@@ -47,6 +56,8 @@ is_outer_other z h = refl
 
 pub ruleset outer_blocks = (is_outer_front, is_outer_other)
 
+-- what stands behind else of a variable
+
 pub else_alone : (y : Tree) → is_block y ≡ true → as_block y ≡ else_block y
 else_alone (t.Alone k.ExprBlock x) e = refl
 else_alone _ e = cc
@@ -59,5 +70,3 @@ pub else_other : (y : Tree) → is_block y ≡ false → is_outer_block y ≡ fa
 else_other (t.Alone k.ExprBlock x) e f = cc
 else_other (t.Front k.ExprAttributed a (t.Alone k.ExprBlock x)) e f = cc
 else_other y e f = refl
-
-pub ruleset else_blocks = (else_alone, else_outer, else_other)

@@ -1,7 +1,6 @@
 -- Forms, patterns and items, by what stands in them.
-use Rattle.std.specs.Prelude.{Bool, true, false, ◌&&◌, List, [], Option, Some, None, cond, is_some}
-use Rattle.proc_macro2.specs.declared.delimiter.Delimiter.{Delimiter}
-use Rattle.reader_tree.specs.Shapes.{node_of, pair_of, first_of}
+use Rattle.std.specs.Prelude.{Bool, true, false, [], Option, Some, None}
+use Rattle.reader_tree.specs.Shapes.{pair_of, first_of}
 use Rattle.syn_grammar.specs.Kind as k
 use Rattle.syn_grammar.specs.Kind.{Kind}
 use Rattle.syn_grammar.specs.Name.{Part}
@@ -9,12 +8,6 @@ use Rattle.syn_grammar.specs.Tree as t
 use Rattle.syn_grammar.specs.Tree.{Tree}
 use Rattle.node_words.specs.Words.{◌▸◌, absent}
 use Rattle.node_views.specs.Statements.{no_attributes}
-
--- a block without a label, and without attributes within
-abbrev pub block_of : Delimiter → Tree → Tree
-block_of d x =
-    t.Alone k.ExprBlock (t.Second t.Nil
-    ▸ t.Node k.Body (t.Group d (t.Node k.InnerAttributes t.End ▸ x)))
 
 -- a block
 abbrev pub is_block : Tree → Bool

@@ -6,7 +6,6 @@ ghost use Rattle.node_words.specs.Words as words;
 ghost use Rattle.std.specs.Prelude.{◌≡◌, IfOk};
 
 use crate::form::condition;
-use crate::pattern::several;
 use crate::statement::statements;
 use node_expressions::block::{
     Block, ExprAsync, ExprBlock, ExprConst, ExprForLoop, ExprLoop, ExprTryBlock, ExprUnsafe,
@@ -18,6 +17,7 @@ use node_to::leaf::{optional, sign};
 use node_to::row::{self, enclosed};
 use node_to::step::absent;
 use node_to::to_tree::ToTree;
+use node_to_patterns::several::several;
 use reader_table::kind::Kind;
 use reader_table::part::Part;
 use reader_table::word::Sign;
