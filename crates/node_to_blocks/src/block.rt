@@ -17,7 +17,7 @@ use node_to::leaf::{optional, sign};
 use node_to::row::{self, enclosed};
 use node_to::step::absent;
 use node_to::to_tree::ToTree;
-use node_to_patterns::several::several;
+use node_to_patterns::several::several_of;
 use reader_table::kind::Kind;
 use reader_table::part::Part;
 use reader_table::word::Sign;
@@ -228,7 +228,7 @@ pub fn expr_for_loop<'a, E: ToTree>(
         arena,
         label(arena, &node.label)?,
         node.for_token.to_tree(arena)?,
-        several(arena, node.pat.to_tree(arena)?)?,
+        several_of(arena, &node.pat)?,
         behind,
     )?;
     let form = made::alone(arena, Kind::ExprForLoop, own)?;

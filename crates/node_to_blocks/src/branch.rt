@@ -15,7 +15,7 @@ use node_to::list::{Way, turned};
 use node_to::row::{self, enclosed, whole};
 use node_to::step::absent;
 use node_to::to_tree::ToTree;
-use node_to_patterns::several::several;
+use node_to_patterns::several::several_of;
 use reader_table::kind::Kind;
 use reader_table::part::Part;
 use reader_table::word::Sign;
@@ -73,7 +73,7 @@ pub fn expr_let<'a, E: ToTree>(
     let own = row::three(
         arena,
         node.let_token.to_tree(arena)?,
-        several(arena, node.pat.to_tree(arena)?)?,
+        several_of(arena, &node.pat)?,
         sign(Sign::Eq, &node.eq_token)?,
     )?;
     let form = made::front(arena, Kind::ExprLet, own, node.expr.to_tree(arena)?)?;
@@ -130,7 +130,7 @@ pub fn arm<'a, E: ToTree>(arena: &'a Arena, node: &'a Arm<E>) -> Result<Tree<'a>
     let parts = row::four(
         arena,
         outer_attributes(arena, &node.attrs)?,
-        several(arena, node.pat.to_tree(arena)?)?,
+        several_of(arena, &node.pat)?,
         guard(arena, node)?,
         behind_arrow(arena, node)?,
     )?;

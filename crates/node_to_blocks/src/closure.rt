@@ -9,7 +9,7 @@ ghost use Rattle.syn_grammar.specs.Kind as k;
 ghost use Rattle.syn_grammar.specs.Tree as t;
 
 use crate::form::as_block_of;
-use crate::pattern::closure_param;
+use crate::pattern::closure_param_of;
 use node_expressions::closure::ExprClosure;
 use node_paths::path::ReturnType;
 use node_to::attributes::attributed;
@@ -33,7 +33,7 @@ impl<T: ToTree> Way<T> for AsParameter {
     ghost tree = { λ x. views.closure_param (T.tree x) };
 
     fn make<'a>(&self, arena: &'a Arena, value: &'a T) -> Result<Tree<'a>, AllocError> {
-        closure_param(arena, value.to_tree(arena)?)
+        closure_param_of(arena, value)
     }
 }
 

@@ -34,7 +34,7 @@ pub fn condition<'a>(arena: &'a Arena, form: Tree<'a>) -> Result<Tree<'a>, Alloc
 
 // Statements in braces, as they stand where no attributes stand within them.
 fn in_block<'a>(arena: &'a Arena, block: PlainBlock<'_, 'a>) -> Result<Tree<'a>, AllocError>
-    ensures { IfOk result (λ x. x ≡ t.Node k.Block (t.Group block.delimiter block.statements.now)) }
+    ensures { IfOk result (λ x. x ≡ t.Node k.Block (t.Group block.entry.delimiter block.entry.statements.now)) }
 {
     let inside = block.statements.copy();
     let group = made::group(arena, block.delimiter, block.group.span, inside)?;

@@ -13,6 +13,7 @@ use crate::sight::{TypedPattern, is_no_outer, typed_pattern};
 use node_to::row;
 use node_to::sight::{node_inside, pair_inside};
 use node_to::step::absent;
+use node_to::to_tree::ToTree;
 use reader_table::kind::Kind;
 use reader_table::part::Part;
 use reader_tree::arena::Arena;
@@ -38,7 +39,7 @@ fn with_attributes<'a>(
 
 // `:` and the type of a pattern that says it.
 fn said<'a>(arena: &'a Arena, typed: TypedPattern<'_, 'a>) -> Result<Tree<'a>, AllocError>
-    ensures { IfOk result (λ x. x ≡ t.First (t.Pair typed.mark.now (t.Called n.the_type typed.ty.now))) }
+    ensures { IfOk result (λ x. x ≡ t.First (t.Pair typed.entry.mark.now (t.Called n.the_type typed.entry.ty.now))) }
 {
     let ty = made::called(arena, Part::Type, typed.ty.copy())?;
     made::first(arena, made::pair(arena, typed.mark.copy(), ty)?)
@@ -50,8 +51,9 @@ fn typed_parts<'a>(
     typed: TypedPattern<'_, 'a>,
     behind: Tree<'a>,
 ) -> Result<Tree<'a>, AllocError>
-    ensures { IfOk result (λ x. x ≡ t.Pair (statements.with_attributes typed.attributes.now typed.pattern.now)
-        (t.Pair (t.First (t.Pair typed.mark.now (t.Called n.the_type typed.ty.now))) behind.entry)) }
+    ensures { IfOk result (λ x. x ≡ t.Pair
+        (statements.with_attributes typed.entry.attributes.now typed.entry.pattern.now)
+        (t.Pair (t.First (t.Pair typed.entry.mark.now (t.Called n.the_type typed.entry.ty.now))) behind.entry)) }
 {
     let inner = with_attributes(arena, typed.attributes, typed.pattern)?;
     let said = said(arena, typed)?;
@@ -111,17 +113,28 @@ fn untyped<'a>(arena: &'a Arena, pattern: Tree<'a>) -> Result<Tree<'a>, AllocErr
     made::node(arena, Kind::ClosureParam, parts)
 }
 
-/// A parameter of a closure, of its pattern.
-///
-/// # Errors
-///
-/// Where there is no memory for it.
+// A parameter of a closure, of its pattern.
 #[tactic(auto, using(crate::proofs::Patterns::params))]
-pub fn closure_param<'a>(arena: &'a Arena, pattern: Tree<'a>) -> Result<Tree<'a>, AllocError>
+fn closure_param<'a>(arena: &'a Arena, pattern: Tree<'a>) -> Result<Tree<'a>, AllocError>
     ensures { IfOk result (λ x. x ≡ views.closure_param pattern.entry) }
 {
     match node_inside(Kind::ClosureParam, &pattern) {
         Some(_) => Ok(pattern),
         None => untyped(arena, pattern),
     }
+}
+
+/// A parameter of a closure, of what is its pattern.
+///
+/// # Errors
+///
+/// Where there is no memory for it.
+pub fn closure_param_of<'a, T: ToTree>(
+    arena: &'a Arena,
+    node: &'a T,
+) -> Result<Tree<'a>, AllocError>
+    ensures { IfOk result (λ x. x ≡ views.closure_param (T.tree node.now)) }
+{
+    let pattern = node.to_tree(arena)?;
+    closure_param(arena, pattern)
 }

@@ -1,5 +1,8 @@
 pub mod AllCases
-pub mod Alternatives
-pub mod Depths
-pub mod RangeBounds
-pub mod Shorthands
+pub mod Attributes
+pub mod Bounds
+pub mod Equals
+pub mod Names
+pub mod Seconds
+pub mod Several
+pub mod Starts

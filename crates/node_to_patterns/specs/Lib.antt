@@ -1,5 +1,3 @@
 pub mod CaseForms
-pub mod Depths
-pub mod RangeBounds
-pub mod Shorthands
+pub mod Forms
 pub mod Starts

@@ -1,12 +1,20 @@
--- Ranges, by what they begin with.
-use Rattle.node_to_patterns.specs.declared.ranges.Start.{Start}
-use Rattle.node_to_patterns.specs.declared.ranges.Start.TheVariants as starts
+-- What ranges begin with: a bound, which is a literal or a path, or another pattern.
+use Rattle.std.specs.Prelude.{◌≡◌, ◌≢◌}
+use Rattle.syn_grammar.specs.Kind as k
 use Rattle.syn_grammar.specs.Tree as t
 use Rattle.syn_grammar.specs.Tree.{Tree}
-use Rattle.node_words.specs.Words.{◌▸◌, last}
-use Rattle.node_views.specs.Patterns.{literal_pattern, one_pattern, path_pattern}
+use Rattle.node_to_patterns.specs.declared.ranges.Start.{Start}
+use Rattle.node_to_patterns.specs.declared.ranges.Start.TheVariants as starts
 
-abbrev pub started : Start → Tree → Tree → Tree
-started (starts.Literal l) x e = literal_pattern l (t.First e)
-started (starts.Path p) x e = path_pattern p (last 2 (t.First e))
-started starts.Other x e = one_pattern (x ▸ e)
+-- of what is chosen as a bound: that it is so
+abbrev pub IsChosen : Start → Tree → Type 0
+IsChosen (starts.Literal l) x = x ≡ t.First l
+IsChosen (starts.Path p) x = x ≡ t.Second p
+IsChosen starts.Other x = ((y : Tree) → x ≢ t.First y) × ((y : Tree) → x ≢ t.Second y)
+
+-- of what may be a bound: that it is so
+abbrev pub IsStart : Start → Tree → Type 0
+IsStart (starts.Literal l) x = x ≡ t.Node k.RangeBound (t.First l)
+IsStart (starts.Path p) x = x ≡ t.Node k.RangeBound (t.Second p)
+IsStart starts.Other x =
+    ((y : Tree) → x ≢ t.Node k.RangeBound (t.First y)) × ((y : Tree) → x ≢ t.Node k.RangeBound (t.Second y))

@@ -1,11 +1,11 @@
 //! Patterns behind their attributes.
 
 ghost use Rattle.node_views.specs.Patterns.{behind_attributes, behind_turns};
-ghost use Rattle.reader_tree.specs.Forms.{turns as in_turn};
 ghost use Rattle.std.specs.Prelude.{◌≡◌, IfOk};
 
 use node_paths::attribute::Attribute;
 use node_to::attributes::outer;
+use node_to::sight::is_end;
 use node_to::to_tree::ToTree;
 use reader_table::kind::Kind;
 use reader_tree::arena::Arena;
@@ -14,22 +14,20 @@ use reader_tree::tree::Tree;
 use std::alloc::AllocError;
 
 // A pattern behind these turns, if there are any.
+#[tactic(auto, using(crate::proofs::Attributes::turns))]
 fn behind<'a>(
     arena: &'a Arena,
-    attributes: Vec<Tree<'a>>,
+    turns: Tree<'a>,
     pattern: Tree<'a>,
 ) -> Result<Tree<'a>, AllocError>
-    ensures { IfOk result (λ x. x ≡ behind_turns (in_turn attributes.entry.items) pattern.entry) }
+    ensures { IfOk result (λ x. x ≡ behind_turns turns.entry pattern.entry) }
 {
-    if attributes.is_empty() {
-        return Ok(pattern);
+    if is_end(&turns) {
+        Ok(pattern)
+    } else {
+        let attributes = made::node(arena, Kind::OuterAttributes, turns)?;
+        made::pair(arena, attributes, pattern)
     }
-    let turns = made::turns(arena, attributes)?;
-    made::pair(
-        arena,
-        made::node(arena, Kind::OuterAttributes, turns)?,
-        pattern,
-    )
 }
 
 /// A pattern behind its attributes, if some stand in front of it.
@@ -45,5 +43,6 @@ pub fn behind_attributes<'a, E: ToTree>(
 ) -> Result<Tree<'a>, AllocError>
     ensures { IfOk result (λ x. x ≡ behind_attributes E.tree attributes.now pattern.entry) }
 {
-    behind(arena, outer(arena, attributes)?, pattern)
+    let turns = made::turns(arena, outer(arena, attributes)?)?;
+    behind(arena, turns, pattern)
 }

@@ -1,87 +1,98 @@
 //! Patterns that are the bound of a range as trees.
 
-ghost use Rattle.node_to_patterns.specs.RangeBounds.{literal_at, literal_in, path_chosen, path_in};
+ghost use Rattle.node_to_patterns.specs.Forms.{literal_form, path_form};
 ghost use Rattle.node_views.specs.Patterns as views;
-ghost use Rattle.reader_table.specs.Kinds.{kind_of};
-ghost use Rattle.std.specs.Prelude.{◌≡◌, IfOk, Some, option_map};
+ghost use Rattle.std.specs.Prelude.{◌≡◌, ◌≢◌, IfOk, MatchOption};
+ghost use Rattle.syn_grammar.specs.Kind as k;
+ghost use Rattle.syn_grammar.specs.Tree as t;
+ghost use Rattle.syn_grammar.specs.Tree.{Tree as GivenTree};
 
-use crate::behind::{first_behind, is_nil_behind, node_behind};
-use node_to::sight::{is_absent, node_inside};
+use crate::seconds::seconds_inside;
+use node_to::sight::{first_inside, is_absent, node_inside, pair_inside};
+use node_to::to_tree::ToTree;
 use reader_table::kind::Kind;
-use reader_table::same::same_kind;
 use reader_tree::arena::Arena;
 use reader_tree::made;
 use reader_tree::tree::Tree;
 use std::alloc::AllocError;
 
-// Of a node of a literal and what stands behind it the literal, where nothing does.
-#[tactic(auto, using(crate::proofs::RangeBounds::literals))]
-fn literal_at<'t, 'a>(tree: &'t Tree<'a>) -> Option<&'t Tree<'a>>
-    ensures { option_map (λ x. x.now) result ≡ literal_at tree.now }
-{
-    let (literal, behind) = node_inside(Kind::LiteralPattern, tree)?.pair()?;
-    if is_absent(behind) {
-        Some(literal)
-    } else {
-        None
-    }
-}
-
 // Of a pattern that is a literal alone that.
-#[tactic(auto, using(crate::proofs::RangeBounds::literals))]
-fn literal_inside<'t, 'a>(tree: &'t Tree<'a>) -> Option<&'t Tree<'a>>
-    ensures { option_map (λ x. x.now) result ≡ literal_in tree.now }
+#[tactic(auto, using(node_to::proofs::Sights::tests))]
+fn literal_inside<'a>(tree: &Tree<'a>) -> Option<Tree<'a>>
+    ensures { MatchOption result ((l : GivenTree) → tree.now ≢ literal_form l)
+        (λ l. tree.now ≡ literal_form l) }
 {
-    let inner = node_inside(Kind::OnePattern, tree)?;
-    literal_at(first_behind(7, inner)?)
-}
-
-// Of a node of a path and what stands behind it the path, where nothing does.
-#[tactic(auto, using(crate::proofs::RangeBounds::paths))]
-fn path_at<'t, 'a>(kind: Kind, tree: &'t Tree<'a>) -> Option<&'t Tree<'a>>
-    ensures { option_map (λ x. x.now) result ≡ path_chosen (Some (kind_of kind, tree.now)) }
-{
-    if !same_kind(kind, Kind::PathPattern) {
-        return None;
-    }
-    let (path, behind) = tree.pair()?;
-    if is_nil_behind(3, behind) {
-        Some(path)
+    let one = node_inside(Kind::OnePattern, tree)?;
+    let choice = seconds_inside(7, one.copy())?;
+    let node = node_inside(Kind::LiteralPattern, first_inside(&choice)?)?;
+    let (literal, behind) = pair_inside(node)?;
+    if is_absent(behind) {
+        Some(literal.copy())
     } else {
         None
     }
 }
 
 // Of a pattern that is a path alone that.
-#[tactic(auto, using(crate::proofs::RangeBounds::paths))]
-fn path_inside<'t, 'a>(tree: &'t Tree<'a>) -> Option<&'t Tree<'a>>
-    ensures { option_map (λ x. x.now) result ≡ path_in tree.now }
+#[tactic(auto, using(node_to::proofs::Sights::tests))]
+fn path_inside<'a>(tree: &Tree<'a>) -> Option<Tree<'a>>
+    ensures { MatchOption result ((p : GivenTree) → tree.now ≢ path_form p)
+        (λ p. tree.now ≡ path_form p) }
 {
-    let inner = node_inside(Kind::OnePattern, tree)?;
-    let (kind, held) = node_behind(8, inner)?;
-    path_at(kind, held)
+    let one = node_inside(Kind::OnePattern, tree)?;
+    let choice = seconds_inside(8, one.copy())?;
+    let (path, behind) = pair_inside(node_inside(Kind::PathPattern, &choice)?)?;
+    let rest = seconds_inside(2, behind.copy())?;
+    if is_absent(&rest) {
+        Some(path.copy())
+    } else {
+        None
+    }
 }
 
-/// The bound of a range: a literal or a path, and another pattern as it is.
+// A literal as a bound.
+fn literal_bound<'a>(arena: &'a Arena, literal: Tree<'a>) -> Result<Tree<'a>, AllocError>
+    ensures { IfOk result (λ x. x ≡ t.Node k.RangeBound (t.First literal.entry)) }
+{
+    made::node(arena, Kind::RangeBound, made::first(arena, literal)?)
+}
+
+// A path as a bound.
+fn path_bound<'a>(arena: &'a Arena, path: Tree<'a>) -> Result<Tree<'a>, AllocError>
+    ensures { IfOk result (λ x. x ≡ t.Node k.RangeBound (t.Second path.entry)) }
+{
+    made::node(arena, Kind::RangeBound, made::second(arena, path)?)
+}
+
+// The bound of a range that is no literal: a path, and another pattern as it is.
+fn other_bound<'a>(arena: &'a Arena, pattern: Tree<'a>) -> Result<Tree<'a>, AllocError>
+    requires { (l : GivenTree) → pattern ≢ literal_form l }
+    ensures { IfOk result (λ x. x ≡ views.range_bound pattern.entry) }
+{
+    match path_inside(&pattern) {
+        Some(path) => path_bound(arena, path),
+        None => Ok(pattern),
+    }
+}
+
+// The bound of a range: a literal or a path, and another pattern as it is.
+fn range_bound<'a>(arena: &'a Arena, pattern: Tree<'a>) -> Result<Tree<'a>, AllocError>
+    ensures { IfOk result (λ x. x ≡ views.range_bound pattern.entry) }
+{
+    match literal_inside(&pattern) {
+        Some(literal) => literal_bound(arena, literal),
+        None => other_bound(arena, pattern),
+    }
+}
+
+/// The bound of a range, of what is such a pattern: a literal or a path, and another pattern as it is.
 ///
 /// # Errors
 ///
 /// Where there is no memory for it.
-#[tactic(auto, using(crate::proofs::RangeBounds::bounds))]
-pub fn range_bound<'a>(arena: &'a Arena, pattern: Tree<'a>) -> Result<Tree<'a>, AllocError>
-    ensures { IfOk result (λ x. x ≡ views.range_bound pattern.entry) }
+pub fn range_bound_of<'a, T: ToTree>(arena: &'a Arena, node: &'a T) -> Result<Tree<'a>, AllocError>
+    ensures { IfOk result (λ x. x ≡ views.range_bound (T.tree node.now)) }
 {
-    match literal_inside(&pattern) {
-        Some(literal) => {
-            let chosen = made::first(arena, literal.copy())?;
-            made::node(arena, Kind::RangeBound, chosen)
-        }
-        None => match path_inside(&pattern) {
-            Some(path) => {
-                let chosen = made::second(arena, path.copy())?;
-                made::node(arena, Kind::RangeBound, chosen)
-            }
-            None => Ok(pattern),
-        },
-    }
+    let pattern = node.to_tree(arena)?;
+    range_bound(arena, pattern)
 }

@@ -5,8 +5,8 @@ ghost use Rattle.std.specs.Prelude.{◌≡◌, IfOk};
 
 use crate::attributes::behind_attributes;
 use crate::kinds::{path_pattern, rest_pattern};
-use crate::several::several;
-use crate::shorthand::shorthand;
+use crate::several::several_of;
+use crate::shorthand::shorthand_of;
 use node_patterns::fields::{FieldPat, PatStruct};
 use node_patterns::kinds::PatRest;
 use node_to::attributes::outer_attributes;
@@ -32,15 +32,14 @@ fn field_form<'a, E: ToTree>(
 ) -> Result<Tree<'a>, AllocError>
     ensures { IfOk result (λ x. x ≡ views.field_form E.tree node.now.colon_token node.now) }
 {
-    let pattern = node.pat.to_tree(arena)?;
     match &node.colon_token {
-        None => made::seconds(arena, 2, shorthand(arena, pattern)?),
+        None => made::seconds(arena, 2, shorthand_of(arena, &node.pat)?),
         Some(token) => {
             let parts = row::three(
                 arena,
                 node.member.to_tree(arena)?,
                 sign(Sign::Colon, token)?,
-                several(arena, pattern)?,
+                several_of(arena, &node.pat)?,
             )?;
             made::first_behind(arena, 1, parts)
         }

@@ -7,7 +7,7 @@ ghost use Rattle.syn_grammar.specs.Kind as k;
 ghost use Rattle.syn_grammar.specs.Tree as t;
 
 use crate::attributes::behind_attributes;
-use crate::several::{AsSeveral, several};
+use crate::several::{AsSeveral, several_of};
 use node_patterns::PatTupleStruct;
 use node_patterns::kinds::{
     PatIdent, PatLit, PatParen, PatPath, PatReference, PatRest, PatSlice, PatTuple, PatWild,
@@ -151,7 +151,7 @@ pub fn pat_paren<'a, E: ToTree>(
 ) -> Result<Tree<'a>, AllocError>
     ensures { IfOk result (λ x. x ≡ views.pat_paren E.tree node.now) }
 {
-    let pattern = several(arena, node.pat.to_tree(arena)?)?;
+    let pattern = several_of(arena, &node.pat)?;
     let group = enclosed(arena, &node.paren_token, row::lone(arena, pattern)?)?;
     behind_attributes(arena, &node.attrs, in_parentheses(arena, group)?)
 }

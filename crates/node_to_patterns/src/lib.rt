@@ -1,6 +1,6 @@
 //! Patterns as trees of the grammar.
 //!
-//! - `behind`: what stands behind choices; `several`: patterns where alternatives may stand.
+//! - `seconds`: what stands behind choices; `several`: patterns where alternatives may stand.
 //! - `attributes`: a pattern behind its attributes.
 //! - `kinds`: each kind of pattern but those that follow.
 //! - `bounds`: patterns that are the bound of a range; `ranges`: ranges.
@@ -9,12 +9,12 @@
 #![tactic(auto)]
 
 pub mod attributes;
-pub mod behind;
 pub mod bounds;
 pub mod cases;
 pub mod fields;
 pub mod kinds;
 pub mod pat;
 pub mod ranges;
+pub mod seconds;
 pub mod several;
 pub mod shorthand;

@@ -1,19 +1,18 @@
 //! Ranges as trees.
 
-ghost use Rattle.node_to_patterns.specs.Starts.{started};
+ghost use Rattle.node_to_patterns.specs.Starts.{IsChosen, IsStart};
 ghost use Rattle.node_views.specs.Patterns as views;
 ghost use Rattle.node_words.specs.Words as words;
 ghost use Rattle.std.specs.Prelude.{◌≡◌, IfOk};
-ghost use Rattle.syn_grammar.specs.Kind as k;
 ghost use Rattle.syn_grammar.specs.Tree as t;
-ghost use Rattle.syn_grammar.specs.Tree.{Tree as GivenTree};
 
 use crate::attributes::behind_attributes;
-use crate::bounds::range_bound;
+use crate::bounds::range_bound_of;
 use crate::kinds::{literal_pattern, one_pattern, path_pattern};
+use crate::seconds::seconds_inside;
 use node_patterns::kinds::PatRange;
 use node_to::leaf::sign;
-use node_to::sight::{node_inside, second_inside};
+use node_to::sight::{first_inside, node_inside};
 use node_to::step::absent;
 use node_to::to_tree::ToTree;
 use reader_table::kind::Kind;
@@ -30,7 +29,7 @@ fn given<'a, E: ToTree>(arena: &'a Arena, bound: &'a Option<Box<E>>) -> Result<T
 {
     match bound {
         None => Ok(made::nil()),
-        Some(pattern) => range_bound(arena, pattern.to_tree(arena)?),
+        Some(pattern) => range_bound_of(arena, pattern),
     }
 }
 
@@ -43,7 +42,7 @@ fn optional<'a, E: ToTree>(
 {
     match bound {
         None => absent(arena),
-        Some(pattern) => made::first(arena, range_bound(arena, pattern.to_tree(arena)?)?),
+        Some(pattern) => made::first(arena, range_bound_of(arena, pattern)?),
     }
 }
 
@@ -89,14 +88,12 @@ pub enum Start<'a> {
 }
 
 // What a range begins with, of what is chosen as its bound.
-#[tactic(auto, using(crate::proofs::RangeBounds::starts))]
 fn chosen_start<'a>(chosen: &Tree<'a>) -> Start<'a>
-    ensures { (e : GivenTree) → views.range_from (t.Node k.RangeBound chosen.now) e
-        ≡ started result (t.Node k.RangeBound chosen.now) e }
+    ensures { IsChosen result chosen.now }
 {
-    match chosen.first() {
+    match first_inside(chosen) {
         Some(literal) => Start::Literal(literal.copy()),
-        None => match second_inside(chosen) {
+        None => match seconds_inside(1, chosen.copy()) {
             Some(path) => Start::Path(path),
             None => Start::Other,
         },
@@ -104,9 +101,8 @@ fn chosen_start<'a>(chosen: &Tree<'a>) -> Start<'a>
 }
 
 // What a range begins with, of its bound.
-#[tactic(auto, using(crate::proofs::RangeBounds::starts))]
 fn start_of<'a>(bound: &Tree<'a>) -> Start<'a>
-    ensures { (e : GivenTree) → views.range_from bound.now e ≡ started result bound.now e }
+    ensures { IsStart result bound.now }
 {
     match node_inside(Kind::RangeBound, bound) {
         Some(chosen) => chosen_start(chosen),
@@ -114,24 +110,57 @@ fn start_of<'a>(bound: &Tree<'a>) -> Start<'a>
     }
 }
 
+// A range that begins with a literal, and what stands behind that.
+fn from_literal<'a>(
+    arena: &'a Arena,
+    literal: Tree<'a>,
+    end: Tree<'a>,
+) -> Result<Tree<'a>, AllocError>
+    ensures { IfOk result (λ x. x ≡ views.literal_pattern literal.entry (t.First end.entry)) }
+{
+    let behind = made::first(arena, end)?;
+    literal_pattern(arena, literal, behind)
+}
+
+// A range that begins with a path, and what stands behind that.
+fn from_path<'a>(arena: &'a Arena, path: Tree<'a>, end: Tree<'a>) -> Result<Tree<'a>, AllocError>
+    ensures { IfOk result (λ x. x ≡ views.path_pattern path.entry (words.last 2 (t.First end.entry))) }
+{
+    let behind = made::seconds(arena, 2, made::first(arena, end)?)?;
+    path_pattern(arena, path, behind)
+}
+
+// A range that begins with another pattern, and what stands behind that.
+fn from_other<'a>(arena: &'a Arena, bound: Tree<'a>, end: Tree<'a>) -> Result<Tree<'a>, AllocError>
+    ensures { IfOk result (λ x. x ≡ views.one_pattern (t.Pair bound.entry end.entry)) }
+{
+    let both = made::pair(arena, bound, end)?;
+    made::node(arena, Kind::OnePattern, both)
+}
+
 // A range that begins with this bound, and what stands behind it.
 fn range_from<'a>(arena: &'a Arena, bound: Tree<'a>, end: Tree<'a>) -> Result<Tree<'a>, AllocError>
     ensures { IfOk result (λ x. x ≡ views.range_from bound.entry end.entry) }
 {
     match start_of(&bound) {
-        Start::Literal(literal) => {
-            let behind = made::first(arena, end)?;
-            literal_pattern(arena, literal, behind)
-        }
-        Start::Path(path) => {
-            let behind = made::seconds(arena, 2, made::first(arena, end)?)?;
-            path_pattern(arena, path, behind)
-        }
-        Start::Other => {
-            let both = made::pair(arena, bound, end)?;
-            made::node(arena, Kind::OnePattern, both)
-        }
+        Start::Literal(literal) => from_literal(arena, literal, end),
+        Start::Path(path) => from_path(arena, path, end),
+        Start::Other => from_other(arena, bound, end),
     }
+}
+
+// A range with a start, without its attributes.
+fn started<'a, E: ToTree>(
+    arena: &'a Arena,
+    start: &'a Box<E>,
+    node: &'a PatRange<E>,
+) -> Result<Tree<'a>, AllocError>
+    ensures { IfOk result (λ x. x ≡ views.range_from (views.range_bound (E.tree start.now.value))
+        (views.range_end node.now.limits (views.held E.tree node.now.end))) }
+{
+    let bound = range_bound_of(arena, start)?;
+    let end = range_end(arena, node)?;
+    range_from(arena, bound, end)
 }
 
 // A range, without its attributes.
@@ -148,10 +177,7 @@ fn range_form<'a, E: ToTree>(
             let both = made::pair(arena, mark, given(arena, &node.end)?)?;
             one_pattern(arena, 2, made::node(arena, Kind::RangeToPattern, both)?)
         }
-        Some(pattern) => {
-            let bound = range_bound(arena, pattern.to_tree(arena)?)?;
-            range_from(arena, bound, range_end(arena, node)?)
-        }
+        Some(start) => started(arena, start, node),
     }
 }
 

@@ -14,13 +14,9 @@ use reader_tree::made;
 use reader_tree::tree::Tree;
 use std::alloc::AllocError;
 
-/// A pattern where alternatives may stand: one is made several, of which it is the only one.
-///
-/// # Errors
-///
-/// Where there is no memory for it.
-#[tactic(auto, using(crate::proofs::Alternatives::alternatives))]
-pub fn several<'a>(arena: &'a Arena, pattern: Tree<'a>) -> Result<Tree<'a>, AllocError>
+// A pattern where alternatives may stand: one is made several, of which it is the only one.
+#[tactic(auto, using(crate::proofs::Several::alternatives))]
+fn several<'a>(arena: &'a Arena, pattern: Tree<'a>) -> Result<Tree<'a>, AllocError>
     ensures { IfOk result (λ x. x ≡ views.several pattern.entry) }
 {
     match node_inside(Kind::Pattern, &pattern) {
@@ -32,6 +28,18 @@ pub fn several<'a>(arena: &'a Arena, pattern: Tree<'a>) -> Result<Tree<'a>, Allo
     }
 }
 
+/// What is a pattern, where alternatives may stand: one is made several, of which it is the only one.
+///
+/// # Errors
+///
+/// Where there is no memory for it.
+pub fn several_of<'a, T: ToTree>(arena: &'a Arena, node: &'a T) -> Result<Tree<'a>, AllocError>
+    ensures { IfOk result (λ x. x ≡ views.several (T.tree node.now)) }
+{
+    let pattern = node.to_tree(arena)?;
+    several(arena, pattern)
+}
+
 /// As a pattern where alternatives may stand.
 #[derive(Clone, Copy)]
 pub struct AsSeveral;
@@ -40,6 +48,6 @@ impl<T: ToTree> Way<T> for AsSeveral {
     ghost tree = { λ x. views.several (T.tree x) };
 
     fn make<'a>(&self, arena: &'a Arena, value: &'a T) -> Result<Tree<'a>, AllocError> {
-        several(arena, value.to_tree(arena)?)
+        several_of(arena, value)
     }
 }
