@@ -1,8 +1,8 @@
 -- Statements that are a lone `;`, and items among them.
-use Rattle.std.specs.Prelude.{◌≡◌, ◌≢◌, ℕ, zero, suc, Bool, true, false, ◌&&◌, List, [], ◌∷◌, Option, Some, None}
-use Rattle.std.specs.Prelude.{is_some, refl}
+use Rattle.std.specs.Prelude.{◌≡◌, ◌≢◌, ◌≤◌, ℕ, zero, suc, true, false, List, [], ◌∷◌, Option, Some, None}
+use Rattle.std.specs.Prelude.{length, map, refl}
+use Rattle.std.proofs.Common.{arith}
 use Rattle.reader_table.specs.Kinds.{kind_of}
-use Rattle.reader_table.specs.Words.{sign_text}
 use Rattle.reader_table.specs.declared.kind.Kind.{Kind}
 use Rattle.reader_table.specs.declared.kind.Kind.TheVariants as kinds
 use Rattle.reader_table.specs.declared.kind.Place.{Place}
@@ -10,6 +10,8 @@ use Rattle.reader_tree.specs.Forms.{mark_of, seconds, turns, elements, ending}
 use Rattle.reader_tree.specs.Shapes.{node_of}
 use Rattle.reader_tree.specs.declared.tree.Element.{Element}
 use Rattle.rust_leaf.specs.declared.punct.Spacing.{Spacing}
+use Rattle.syn_buffer.specs.Entries.{entry_token}
+use Rattle.syn_buffer.specs.declared.entry.Entry.{Entry}
 use Rattle.syn_grammar.specs.Kind as k
 use Rattle.syn_grammar.specs.Kind.{Kind as GivenKind}
 use Rattle.syn_grammar.specs.Name.{Part}
@@ -19,7 +21,7 @@ use Rattle.syn_grammar.specs.Tree.{Tree}
 use Rattle.syn_kinds.specs.declared.punctuation.Punctuation.{Punctuation}
 use Rattle.node_words.specs.Words.{mark, optional}
 use Rattle.node_to.proofs.Sights.{node_is}
-use Rattle.node_to_blocks.specs.Sights.{is_item_macro, is_no_tokens, item_form, name_in}
+use Rattle.node_to_blocks.specs.Sights.{call_form, is_item_macro, is_named_call, is_no_tokens, item_form}
 use Rattle.node_views.specs.Statements.{expression_statement, is_named, is_named_macro, lone_or, semicolon}
 
 -- no tokens
@@ -42,20 +44,28 @@ tokens_elements c [] f None = refl
 tokens_elements c [] f (Some y) = refl
 tokens_elements c (e ∷ es) f o = refl
 
-pub ruleset tokens = (tokens_mark, tokens_first, tokens_turns, tokens_elements)
+pub some_tokens : (es : List Entry) → 1 ≤ length es → is_no_tokens (t.Raw (map entry_token es)) ≡ false
+some_tokens [] h = absurd (omega (arith, h))
+some_tokens (e ∷ es) h = refl
 
-pub lone_mark : (x : Tree) (m : Punctuation 36 1) → is_no_tokens x ≡ true → t.First (mark m) ≡ lone_or x (Some m)
-lone_mark (t.Raw []) m e = refl
-lone_mark _ m e = cc
+pub ruleset tokens = (some_tokens, tokens_mark, tokens_first, tokens_turns, tokens_elements)
 
-pub no_lone : (x : Tree) (m : Punctuation 36 1) → is_no_tokens x ≡ false
-    → t.Second (expression_statement x (optional semicolon (Some m))) ≡ lone_or x (Some m)
-no_lone (t.Raw []) m e = cc
-no_lone x m e = refl
+pub lone_mark : (x : Tree) (o : Option (Punctuation 36 1)) (m : Punctuation 36 1) → o ≡ Some m
+    → is_no_tokens x ≡ true → t.First (mark m) ≡ lone_or x o
+lone_mark (t.Raw []) o m e h = rw e refl
+lone_mark _ o m e h = cc
 
-pub no_semicolon : (x : Tree) → t.Second (expression_statement x (optional semicolon None)) ≡ lone_or x None
-no_semicolon (t.Raw []) = refl
-no_semicolon x = refl
+pub no_lone : (x : Tree) (o : Option (Punctuation 36 1)) → is_no_tokens x ≡ false
+    → t.Second (expression_statement x (optional semicolon o)) ≡ lone_or x o
+no_lone (t.Raw []) o h = cc
+no_lone x None h = refl
+no_lone x (Some m) h = refl
+
+pub no_semicolon : (x : Tree) (o : Option (Punctuation 36 1)) → o ≡ None
+    → t.Second (expression_statement x (optional semicolon o)) ≡ lone_or x o
+no_semicolon (t.Raw []) None e = refl
+no_semicolon x None e = refl
+no_semicolon x (Some m) e = cc
 
 pub ruleset lone = (lone_mark, no_lone, no_semicolon)
 
@@ -65,13 +75,31 @@ pub not_macro : (q : Kind) → ((p : Place) → q ≢ kinds.ItemMacro p) → is_
 not_macro (kinds.ItemMacro p) h = absurd (h p refl)
 not_macro q h = refl
 
-named_at : (q : GivenKind) (y : Tree) → is_item_macro q && is_some (name_in y) ≡ is_named (t.Node q y)
-named_at (k.ItemMacro p) (t.Pair v (t.Pair m (t.Pair (t.First i) z))) = refl
-named_at q y = refl
+pub call_is : (y x m i z : Tree) → y ≡ call_form x m i z → is_named_call y ≡ true
+call_is y x m i z e = rw e refl
 
-pub named_node : (x : Tree) (q : GivenKind) (y : Tree) → node_of x ≡ Some (q, y)
-    → is_item_macro q && is_some (name_in y) ≡ is_named x
-named_node x q y e = let h : x ≡ t.Node q y = node_is x q y e in rw h (named_at q y)
+pub call_other : (y : Tree) → ((x m i z : Tree) → y ≢ call_form x m i z) → is_named_call y ≡ false
+call_other (t.Pair x (t.Pair m (t.Pair (t.First i) z))) h = absurd (h x m i z refl)
+call_other y h = refl
+
+pub ruleset calls = (call_is, call_other)
+
+named_in : (q : GivenKind) (y : Tree) → is_item_macro q ≡ true → is_named_call y ≡ is_named (t.Node q y)
+named_in (k.ItemMacro p) (t.Pair x (t.Pair m (t.Pair (t.First i) z))) h = refl
+named_in (k.ItemMacro p) y h = refl
+named_in _ y h = cc
+
+other_in : (q : GivenKind) (y : Tree) → is_item_macro q ≡ false → is_named (t.Node q y) ≡ false
+other_in (k.ItemMacro p) y h = cc
+other_in q y h = refl
+
+pub named_node : (x : Tree) (q : GivenKind) (y : Tree) → node_of x ≡ Some (q, y) → is_item_macro q ≡ true
+    → is_named_call y ≡ is_named x
+named_node x q y e h = let d : x ≡ t.Node q y = node_is x q y e in rw d (named_in q y h)
+
+pub named_not : (x : Tree) (q : GivenKind) (y : Tree) → node_of x ≡ Some (q, y) → is_item_macro q ≡ false
+    → is_named x ≡ false
+named_not x q y e h = let d : x ≡ t.Node q y = node_is x q y e in rw d (other_in q y h)
 
 pub named_other : (x : Tree) → node_of x ≡ None → is_named x ≡ false
 named_other (t.Node (k.ItemMacro p) y) e = cc
@@ -84,4 +112,4 @@ pub item_other : (z : Tree) → ((a v x : Tree) (n : Part) → z ≢ item_form a
 item_other (t.Node k.AnItem (t.First (t.Pair a (t.Pair v (t.Called n x))))) h = absurd (h a v x n refl)
 item_other z h = refl
 
-pub ruleset named = (named_node, named_other, item_is, item_other)
+pub ruleset named = (named_node, named_not, named_other)

@@ -1,6 +1,5 @@
 -- Forms, patterns and items, by what stands in them.
-use Rattle.std.specs.Prelude.{Bool, true, false, [], Option, Some, None}
-use Rattle.reader_tree.specs.Shapes.{pair_of, first_of}
+use Rattle.std.specs.Prelude.{Bool, true, false, []}
 use Rattle.syn_grammar.specs.Kind as k
 use Rattle.syn_grammar.specs.Kind.{Kind}
 use Rattle.syn_grammar.specs.Name.{Part}
@@ -43,22 +42,13 @@ abbrev pub is_item_macro : Kind → Bool
 is_item_macro (k.ItemMacro p) = true
 is_item_macro _ = false
 
--- what stands first behind these, in turn
-abbrev pub first_in : Option (Tree × Tree) → Option Tree
-first_in None = None
-first_in (Some p) = first_of p.0
+-- a macro's call with a name of its own: its path, its !, the name, and what stands behind that
+abbrev pub call_form : Tree → Tree → Tree → Tree → Tree
+call_form x m i y = x ▸ m ▸ t.First i ▸ y
 
-abbrev pub name_behind : Option (Tree × Tree) → Option Tree
-name_behind None = None
-name_behind (Some p) = first_in (pair_of p.1)
-
--- of a macro's call, its path, its ! and what stands behind it, the name that stands there
-abbrev pub name_at : Option (Tree × Tree) → Option Tree
-name_at None = None
-name_at (Some p) = name_behind (pair_of p.1)
-
-abbrev pub name_in : Tree → Option Tree
-name_in x = name_at (pair_of x)
+abbrev pub is_named_call : Tree → Bool
+is_named_call (t.Pair x (t.Pair m (t.Pair (t.First i) y))) = true
+is_named_call _ = false
 
 -- an item behind its attributes and its visibility
 abbrev pub item_form : Tree → Tree → Part → Tree → Tree

@@ -1,13 +1,13 @@
 //! What a form, a pattern or an item is, where something else is made of it by that.
 
-ghost use Rattle.node_to_blocks.specs.Sights.{is_block, is_item_macro, is_no_outer, is_no_tokens};
-ghost use Rattle.node_to_blocks.specs.Sights.{is_outer_block, item_form, name_in, typed_form};
+ghost use Rattle.node_to_blocks.specs.Sights.{call_form, is_block, is_item_macro, is_named_call, is_no_outer};
+ghost use Rattle.node_to_blocks.specs.Sights.{is_no_tokens, is_outer_block, item_form, typed_form};
 ghost use Rattle.node_views.specs.Statements as views;
 ghost use Rattle.node_words.specs.Blocks.{block_of};
 ghost use Rattle.proc_macro2.specs.declared.delimiter.Delimiter.{Delimiter as GivenDelimiter};
 ghost use Rattle.reader_table.specs.Kinds.{kind_of};
 ghost use Rattle.reader_table.specs.Parts.{part_of};
-ghost use Rattle.std.specs.Prelude.{◌≡◌, ◌≢◌, MatchOption, option_map};
+ghost use Rattle.std.specs.Prelude.{◌≡◌, ◌≢◌, MatchOption};
 ghost use Rattle.syn_grammar.specs.Name.{Part as GivenPart};
 ghost use Rattle.syn_grammar.specs.Tree.{Tree as GivenTree};
 
@@ -120,7 +120,10 @@ pub fn is_no_tokens(tree: &Tree<'_>) -> bool
     ensures { result ≡ is_no_tokens tree.now }
 {
     match &tree.form {
-        Form::Raw(kept) => kept.entries.is_empty(),
+        Form::Raw(kept) => match kept.entries {
+            [] => true,
+            [_, ..] => false,
+        },
         _ => false,
     }
 }
@@ -133,15 +136,29 @@ fn is_item_macro(kind: Kind) -> bool
     matches!(kind, Kind::ItemMacro(_))
 }
 
-// Of a macro's call, its path, its `!` and what stands behind it, the name that stands there.
-#[tactic(auto, using(crate::proofs::Statements::named))]
-fn name_inside<'t, 'a>(tree: &'t Tree<'a>) -> Option<&'t Tree<'a>>
-    ensures { option_map (λ x. x.now) result ≡ name_in tree.now }
+// Of a macro's call with a name of its own its path, its `!`, the name, and what stands behind that.
+type Call<'t, 'a> = (&'t Tree<'a>, &'t Tree<'a>, &'t Tree<'a>, &'t Tree<'a>);
+
+// Of a macro's call with a name of its own each of its parts.
+fn call_parts<'t, 'a>(tree: &'t Tree<'a>) -> Option<Call<'t, 'a>>
+    ensures { MatchOption result ((x m i y : GivenTree) → tree.now ≢ call_form x m i y)
+        (λ p. tree.now ≡ call_form p.0.now p.1.now p.2.now p.3.now) }
 {
-    let (_, behind) = tree.pair()?;
-    let (_, named) = behind.pair()?;
-    let (name, _) = named.pair()?;
-    name.first()
+    let (path, behind) = pair_inside(tree)?;
+    let (mark, named) = pair_inside(behind)?;
+    let (name, tokens) = pair_inside(named)?;
+    Some((path, mark, first_inside(name)?, tokens))
+}
+
+// Whether a macro's call has a name of its own.
+#[tactic(auto, using(crate::proofs::Statements::calls))]
+fn is_named_call(tree: &Tree<'_>) -> bool
+    ensures { result ≡ is_named_call tree.now }
+{
+    match call_parts(tree) {
+        Some(_) => true,
+        None => false,
+    }
 }
 
 // Whether the item is a call of a macro, with a name of its own.
@@ -150,7 +167,11 @@ fn is_named(tree: &Tree<'_>) -> bool
     ensures { result ≡ views.is_named tree.now }
 {
     match tree.node() {
-        Some((kind, inner)) => is_item_macro(kind) && name_inside(inner).is_some(),
+        Some((kind, inner)) => if is_item_macro(kind) {
+            is_named_call(inner)
+        } else {
+            false
+        },
         None => false,
     }
 }
@@ -185,7 +206,6 @@ fn item_parts<'t, 'a>(tree: &'t Tree<'a>) -> Option<ItemParts<'t, 'a>>
 }
 
 /// Whether the item is a call of a macro, with a name of its own, behind its attributes.
-#[tactic(auto, using(crate::proofs::Statements::named))]
 pub fn is_named_macro(tree: &Tree<'_>) -> bool
     ensures { result ≡ views.is_named_macro tree.now }
 {

@@ -150,12 +150,33 @@ pub fn item_statement<'a>(arena: &'a Arena, item: Tree<'a>) -> Result<Tree<'a>, 
     }
 }
 
+// A lone `;`.
+#[tactic(auto, unfolding(syn_kinds::specs::Table::marks, syn_kinds::specs::Table::sign))]
+fn lone<'a>(arena: &'a Arena, token: &token::Semi) -> Result<Tree<'a>, AllocError>
+    ensures { IfOk result (λ x. x ≡ t.First (words.mark token.now)) }
+{
+    made::first(arena, sign(Sign::Semi, token)?)
+}
+
+// An expression among statements that is no lone `;`.
+fn among<'a>(
+    arena: &'a Arena,
+    form: Tree<'a>,
+    token: &Option<token::Semi>,
+) -> Result<Tree<'a>, AllocError>
+    ensures { IfOk result (λ x. x ≡ t.Second
+        (views.expression_statement form.entry (words.optional views.semicolon token.now))) }
+{
+    let behind = semicolon(arena, token)?;
+    made::second(arena, expression_statement(arena, form, behind)?)
+}
+
 /// An expression among statements: one of no tokens before a `;` is a lone `;`.
 ///
 /// # Errors
 ///
 /// Where there is no memory for it.
-#[tactic(auto, using(crate::proofs::Statements::lone), unfolding(syn_kinds::specs::Table::marks, syn_kinds::specs::Table::sign))]
+#[tactic(auto, using(crate::proofs::Statements::lone))]
 pub fn lone_or<'a>(
     arena: &'a Arena,
     form: Tree<'a>,
@@ -166,15 +187,12 @@ pub fn lone_or<'a>(
     match token {
         Some(mark) => {
             if is_no_tokens(&form) {
-                return made::first(arena, sign(Sign::Semi, mark)?);
+                lone(arena, mark)
+            } else {
+                among(arena, form, token)
             }
-            let behind = semicolon(arena, token)?;
-            made::second(arena, expression_statement(arena, form, behind)?)
         }
-        None => {
-            let behind = semicolon(arena, token)?;
-            made::second(arena, expression_statement(arena, form, behind)?)
-        }
+        None => among(arena, form, token),
     }
 }
 

@@ -23,7 +23,7 @@ fn literal_inside<'a>(tree: &Tree<'a>) -> Option<Tree<'a>>
         (λ l. tree.now ≡ literal_form l) }
 {
     let one = node_inside(Kind::OnePattern, tree)?;
-    let choice = seconds_inside(7, one.copy())?;
+    let choice = seconds_inside(7, one)?;
     let node = node_inside(Kind::LiteralPattern, first_inside(&choice)?)?;
     let (literal, behind) = pair_inside(node)?;
     if is_absent(behind) {
@@ -40,9 +40,9 @@ fn path_inside<'a>(tree: &Tree<'a>) -> Option<Tree<'a>>
         (λ p. tree.now ≡ path_form p) }
 {
     let one = node_inside(Kind::OnePattern, tree)?;
-    let choice = seconds_inside(8, one.copy())?;
+    let choice = seconds_inside(8, one)?;
     let (path, behind) = pair_inside(node_inside(Kind::PathPattern, &choice)?)?;
-    let rest = seconds_inside(2, behind.copy())?;
+    let rest = seconds_inside(2, behind)?;
     if is_absent(&rest) {
         Some(path.copy())
     } else {

@@ -44,7 +44,7 @@ fn cases<'a, E: ToTree>(
 }
 
 // The patterns behind the first, and a `|` behind the last one, if one stands there.
-#[tactic(auto, using(crate::proofs::AllCases::all_cases), unfolding(syn_kinds::specs::Table::marks, syn_kinds::specs::Table::sign))]
+#[tactic(auto, using(crate::proofs::AllCases::all_cases))]
 fn more_cases<'a, E: ToTree>(
     arena: &'a Arena,
     patterns: &'a [E],
@@ -53,10 +53,10 @@ fn more_cases<'a, E: ToTree>(
     ensures { IfOk result (λ x. x ≡ views.more_cases E.tree patterns.now separators.now) }
 {
     let mut each = cases(arena, patterns, separators)?;
-    let Some(token) = separators.get(patterns.len()) else {
+    if separators.len() <= patterns.len() {
         return made::turns(arena, each);
-    };
-    let mark = sign(Sign::Or, token)?;
+    }
+    let mark = mark_before(separators.get(patterns.len()))?;
     each.push(made::pair(arena, mark, made::nil())?)?;
     made::turns(arena, each)
 }

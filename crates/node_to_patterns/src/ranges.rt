@@ -93,7 +93,7 @@ fn chosen_start<'a>(chosen: &Tree<'a>) -> Start<'a>
 {
     match first_inside(chosen) {
         Some(literal) => Start::Literal(literal.copy()),
-        None => match seconds_inside(1, chosen.copy()) {
+        None => match seconds_inside(1, chosen) {
             Some(path) => Start::Path(path),
             None => Start::Other,
         },

@@ -8,15 +8,15 @@ use node_to::sight::second_inside;
 use reader_tree::tree::Tree;
 
 /// What stands behind so many choices, if of each the second was chosen.
-pub fn seconds_inside<'a>(count: u32, tree: Tree<'a>) -> Option<Tree<'a>>
-    ensures { MatchOption result ((x : GivenTree) → tree.entry ≢ seconds count x)
-        (λ x. tree.entry ≡ seconds count x) }
+pub fn seconds_inside<'a>(count: u32, tree: &Tree<'a>) -> Option<Tree<'a>>
+    ensures { MatchOption result ((x : GivenTree) → tree.now ≢ seconds count x)
+        (λ x. tree.now ≡ seconds count x) }
 {
     if count == 0 {
-        return Some(tree);
+        return Some(tree.copy());
     }
-    match second_inside(&tree) {
-        Some(inner) => seconds_inside(count - 1, inner),
+    match second_inside(tree) {
+        Some(inner) => seconds_inside(count - 1, &inner),
         None => None,
     }
 }

@@ -37,7 +37,7 @@ fn name_inside<'t, 'a>(tree: &'t Tree<'a>) -> Option<Name<'t, 'a>>
     let (by_ref, behind) = pair_inside(node)?;
     let (mutability, named) = pair_inside(behind)?;
     let (ident, end) = pair_inside(named)?;
-    let rest = seconds_inside(1, end.copy())?;
+    let rest = seconds_inside(1, end)?;
     if is_absent(&rest) {
         Some(Name {
             by_ref,
