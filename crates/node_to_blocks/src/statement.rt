@@ -135,12 +135,8 @@ pub fn local<'a, E: ToTree>(arena: &'a Arena, node: &'a Local<E>) -> Result<Tree
     made::pair(arena, outer_attributes(arena, &node.attrs)?, statement)
 }
 
-/// An item among statements: a macro with a name of its own stands elsewhere.
-///
-/// # Errors
-///
-/// Where there is no memory for it.
-pub fn item_statement<'a>(arena: &'a Arena, item: Tree<'a>) -> Result<Tree<'a>, AllocError>
+// An item among statements: a macro with a name of its own stands elsewhere.
+fn item_statement<'a>(arena: &'a Arena, item: Tree<'a>) -> Result<Tree<'a>, AllocError>
     ensures { IfOk result (λ x. x ≡ views.item_statement item.entry) }
 {
     if is_named_macro(&item) {
@@ -148,6 +144,21 @@ pub fn item_statement<'a>(arena: &'a Arena, item: Tree<'a>) -> Result<Tree<'a>, 
     } else {
         made::first_behind(arena, 3, item)
     }
+}
+
+/// What is an item, among statements: a macro with a name of its own stands elsewhere.
+///
+/// # Errors
+///
+/// Where there is no memory for it.
+pub fn item_statement_of<'a, T: ToTree>(
+    arena: &'a Arena,
+    node: &'a T,
+) -> Result<Tree<'a>, AllocError>
+    ensures { IfOk result (λ x. x ≡ views.item_statement (T.tree node.now)) }
+{
+    let item = node.to_tree(arena)?;
+    item_statement(arena, item)
 }
 
 // A lone `;`.
@@ -171,13 +182,9 @@ fn among<'a>(
     made::second(arena, expression_statement(arena, form, behind)?)
 }
 
-/// An expression among statements: one of no tokens before a `;` is a lone `;`.
-///
-/// # Errors
-///
-/// Where there is no memory for it.
+// An expression among statements: one of no tokens before a `;` is a lone `;`.
 #[tactic(auto, using(crate::proofs::Statements::lone))]
-pub fn lone_or<'a>(
+fn lone_or<'a>(
     arena: &'a Arena,
     form: Tree<'a>,
     token: &Option<token::Semi>,
@@ -194,6 +201,22 @@ pub fn lone_or<'a>(
         }
         None => among(arena, form, token),
     }
+}
+
+/// What is an expression, among statements: one of no tokens before a `;` is a lone `;`.
+///
+/// # Errors
+///
+/// Where there is no memory for it.
+pub fn lone_or_of<'a, T: ToTree>(
+    arena: &'a Arena,
+    node: &'a T,
+    token: &Option<token::Semi>,
+) -> Result<Tree<'a>, AllocError>
+    ensures { IfOk result (λ x. x ≡ views.lone_or (T.tree node.now) token.now) }
+{
+    let form = node.to_tree(arena)?;
+    lone_or(arena, form, token)
 }
 
 /// A call of a macro as a statement.
@@ -225,7 +248,7 @@ pub fn stmt<'a, E: ToTree>(arena: &'a Arena, node: &'a Stmt<E>) -> Result<Tree<'
 {
     match node {
         Stmt::Item(item) => {
-            let inner = item_statement(arena, item.to_tree(arena)?)?;
+            let inner = item_statement_of(arena, item)?;
             made::node(arena, Kind::AStatement, inner)
         }
         Stmt::Macro(node) => {
@@ -248,7 +271,7 @@ fn block_stmt<'a, E: ToTree>(arena: &'a Arena, node: &'a Stmt<E>) -> Result<Tree
     ensures { IfOk result (λ x. x ≡ views.block_stmt E.tree node.now) }
 {
     match node {
-        Stmt::Expr(form, token) => lone_or(arena, form.to_tree(arena)?, token),
+        Stmt::Expr(form, token) => lone_or_of(arena, form, token),
         Stmt::Item(_) => made::second(arena, stmt(arena, node)?),
         Stmt::Macro(_) => made::second(arena, stmt(arena, node)?),
         Stmt::Local(_) => made::second(arena, stmt(arena, node)?),
