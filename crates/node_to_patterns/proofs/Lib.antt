@@ -1,8 +1,8 @@
 pub mod AllCases
-pub mod Attributes
-pub mod Bounds
+pub mod Alternatives
+pub mod Behind
+pub mod Choices
 pub mod Equals
 pub mod Names
-pub mod Seconds
-pub mod Several
+pub mod RangeBounds
 pub mod Starts

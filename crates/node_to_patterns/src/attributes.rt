@@ -14,7 +14,7 @@ use reader_tree::tree::Tree;
 use std::alloc::AllocError;
 
 // A pattern behind these turns, if there are any.
-#[tactic(auto, using(crate::proofs::Attributes::turns))]
+#[tactic(auto, using(crate::proofs::Behind::turns))]
 fn behind<'a>(
     arena: &'a Arena,
     turns: Tree<'a>,

@@ -15,7 +15,7 @@ use reader_tree::tree::Tree;
 use std::alloc::AllocError;
 
 // A pattern where alternatives may stand: one is made several, of which it is the only one.
-#[tactic(auto, using(crate::proofs::Several::alternatives))]
+#[tactic(auto, using(crate::proofs::Alternatives::alternatives))]
 fn several<'a>(arena: &'a Arena, pattern: Tree<'a>) -> Result<Tree<'a>, AllocError>
     ensures { IfOk result (λ x. x ≡ views.several pattern.entry) }
 {

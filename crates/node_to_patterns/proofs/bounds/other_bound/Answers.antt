@@ -1,4 +1,4 @@
-use Rattle.node_to_patterns.proofs.Bounds.{bound_other, bound_path}
+use Rattle.node_to_patterns.proofs.RangeBounds.{bound_other, bound_path}
 use Rattle.node_to_patterns.proofs.Equals.{if_ok}
 use Rattle.node_to_patterns.proofs.bounds.other_bound.Goals as goal
 

@@ -1,4 +1,4 @@
-use Rattle.node_to_patterns.proofs.Bounds.{bound_literal}
+use Rattle.node_to_patterns.proofs.RangeBounds.{bound_literal}
 use Rattle.node_to_patterns.proofs.Equals.{if_ok}
 use Rattle.node_to_patterns.proofs.bounds.range_bound.Goals as goal
 

@@ -1,6 +1,6 @@
 use Rattle.std.specs.Prelude.{◌≡◌, Some, None}
 use Rattle.node_to.specs.Sights.{second_of}
-use Rattle.node_to_patterns.proofs.Seconds.{more_seconds, no_second}
+use Rattle.node_to_patterns.proofs.Choices.{more_seconds, no_second}
 use Rattle.node_to_patterns.proofs.seconds.+seconds_inside.Goals as goal
 
 pub returns-in-Some : goal.returns-in-Some
