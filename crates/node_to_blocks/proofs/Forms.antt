@@ -1,6 +1,5 @@
 -- Forms of expressions where a block stands.
-use Rattle.std.specs.Prelude.{◌≡◌, ◌≢◌, true, false, IfOk, Result, Ok, Err, refl}
-use Rattle.std.proofs.Common.{◌∙◌}
+use Rattle.std.specs.Prelude.{◌≡◌, ◌≢◌, true, false, refl}
 use Rattle.proc_macro2.specs.declared.delimiter.Delimiter.{Delimiter}
 use Rattle.syn_grammar.specs.Kind as k
 use Rattle.syn_grammar.specs.Tree as t
@@ -10,11 +9,6 @@ use Rattle.node_words.specs.Words.{expression}
 use Rattle.node_to_blocks.specs.Sights.{is_block, is_outer_block}
 use Rattle.node_views.specs.Expressions.{else_operand}
 use Rattle.node_views.specs.Statements.{as_block, else_block, in_braces}
-
--- what a tree is, by what it is too
-pub if_ok : {A : Type 0} (r : Result Tree A) (y z : Tree) → y ≡ z → IfOk r (λ x. x ≡ y) → IfOk r (λ x. x ≡ z)
-if_ok (Ok v) y z e h = h ∙ e
-if_ok (Err v) y z e h = h
 
 -- blocks
 

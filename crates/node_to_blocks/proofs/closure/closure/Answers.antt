@@ -1,5 +1,5 @@
 use Rattle.node_to_blocks.proofs.Closures.{behind_type}
-use Rattle.node_to_blocks.proofs.Forms.{if_ok}
+use Rattle.node_to_patterns.proofs.Equals.{if_ok}
 use Rattle.node_to_blocks.proofs.closure.closure.Goals as goal
 
 pub returns-in-Type : goal.returns-in-Type

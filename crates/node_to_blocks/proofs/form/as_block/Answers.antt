@@ -1,4 +1,5 @@
-use Rattle.node_to_blocks.proofs.Forms.{block_is, block_other, if_ok}
+use Rattle.node_to_patterns.proofs.Equals.{if_ok}
+use Rattle.node_to_blocks.proofs.Forms.{block_is, block_other}
 use Rattle.node_to_blocks.proofs.form.as_block.Goals as goal
 
 pub returns-in-Some : goal.returns-in-Some

@@ -1,5 +1,6 @@
 use Rattle.std.proofs.Common.{◌∙◌, sym}
-use Rattle.node_to_blocks.proofs.Forms.{else_alone, else_other, else_outer, if_ok}
+use Rattle.node_to_patterns.proofs.Equals.{if_ok}
+use Rattle.node_to_blocks.proofs.Forms.{else_alone, else_other, else_outer}
 use Rattle.node_to_blocks.proofs.form.else_block.Goals as goal
 
 pub returns-then-is_block : goal.returns-then-is_block

@@ -1,4 +1,5 @@
-use Rattle.node_to_blocks.proofs.Forms.{if_is, if_ok, if_other}
+use Rattle.node_to_patterns.proofs.Equals.{if_ok}
+use Rattle.node_to_blocks.proofs.Forms.{if_is, if_other}
 use Rattle.node_to_blocks.proofs.form.else_operand.Goals as goal
 
 pub returns-in-Some : goal.returns-in-Some

@@ -1,4 +1,4 @@
-use Rattle.node_to_blocks.proofs.Forms.{if_ok}
+use Rattle.node_to_patterns.proofs.Equals.{if_ok}
 use Rattle.node_to_blocks.proofs.Patterns.{let_other, let_typed}
 use Rattle.node_to_blocks.proofs.pattern.let_pattern.Goals as goal
 

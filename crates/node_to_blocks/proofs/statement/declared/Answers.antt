@@ -1,6 +1,6 @@
 use Rattle.std.proofs.Common.{◌∙◌, ap}
 use Rattle.node_views.specs.Statements.{let_pattern}
-use Rattle.node_to_blocks.proofs.Forms.{if_ok}
+use Rattle.node_to_patterns.proofs.Equals.{if_ok}
 use Rattle.node_to_blocks.proofs.statement.declared.Goals as goal
 
 pub returns : goal.returns

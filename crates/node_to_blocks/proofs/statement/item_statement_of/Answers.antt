@@ -1,6 +1,6 @@
 use Rattle.std.proofs.Common.{ap}
 use Rattle.node_views.specs.Statements.{item_statement}
-use Rattle.node_to_blocks.proofs.Forms.{if_ok}
+use Rattle.node_to_patterns.proofs.Equals.{if_ok}
 use Rattle.node_to_blocks.proofs.statement.item_statement_of.Goals as goal
 
 pub returns : goal.returns
