@@ -3,8 +3,6 @@
 ghost use Rattle.node_views.specs.Patterns as views;
 ghost use Rattle.node_words.specs.Words as words;
 ghost use Rattle.std.specs.Prelude.{◌≡◌, IfOk};
-ghost use Rattle.syn_grammar.specs.Kind as k;
-ghost use Rattle.syn_grammar.specs.Tree as t;
 
 use crate::attributes::behind_attributes;
 use crate::several::{AsSeveral, several_of};
