@@ -87,12 +87,7 @@ fn typed_closure<'a, E: ToTree>(
         (t.Pair (return_type E.tree node.now.output) (as_block (E.tree node.now.body.value))))) }
 {
     let returned = node.output.to_tree(arena);
-    let own = step::three(
-        arena,
-        Ok(head),
-        returned,
-        as_block_of(arena, &node.body),
-    );
+    let own = step::three(arena, Ok(head), returned, as_block_of(arena, &node.body));
     step::alone(arena, Kind::ExprTypedClosure, own)
 }
 

@@ -90,10 +90,7 @@ fn else_operand<'a>(arena: &'a Arena, form: Tree<'a>) -> Result<Tree<'a>, AllocE
 /// # Errors
 ///
 /// Where there is no memory for it.
-pub fn else_operand_of<'a, T: ToTree>(
-    arena: &'a Arena,
-    node: &'a T,
-) -> Result<Tree<'a>, AllocError>
+pub fn else_operand_of<'a, T: ToTree>(arena: &'a Arena, node: &'a T) -> Result<Tree<'a>, AllocError>
     ensures { IfOk result (λ x. x ≡ views.else_operand (T.tree node.now)) }
 {
     let form = node.to_tree(arena)?;

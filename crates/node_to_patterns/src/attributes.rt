@@ -15,11 +15,7 @@ use std::alloc::AllocError;
 
 // A pattern behind these turns, if there are any.
 #[tactic(auto, using(crate::proofs::Behind::turns))]
-fn behind<'a>(
-    arena: &'a Arena,
-    turns: Tree<'a>,
-    pattern: Tree<'a>,
-) -> Result<Tree<'a>, AllocError>
+fn behind<'a>(arena: &'a Arena, turns: Tree<'a>, pattern: Tree<'a>) -> Result<Tree<'a>, AllocError>
     ensures { IfOk result (λ x. x ≡ behind_turns turns.entry pattern.entry) }
 {
     if is_end(&turns) {
