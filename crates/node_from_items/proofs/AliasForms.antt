@@ -25,7 +25,8 @@ use Rattle.node_words.specs.Words as words
 use Rattle.node_words.specs.Words.{absent}
 use Rattle.node_from_items.specs.Aliases.{either_end, end_of, has_placed, is_placed}
 use Rattle.node_from_items.proofs.Found.{found_behind, found_called, found_here, found_mark, found_other, found_word}
-use Rattle.node_from_items.proofs.Found.{inside, inside_shaped, kept_called}
+use Rattle.node_from_items.proofs.Found.{inside_shaped, kept_called}
+use Rattle.node_from_items.specs.Values.{inside}
 
 -- conditions stand in front of a definition
 
@@ -40,7 +41,21 @@ early_end f None (t.Called n (t.Node j _)) d h e q = cc (q)
 early_end f None (t.Called n _) d h e q = cc (q)
 early_end f None _ d h e q = absurd h.0
 
-pub ruleset ends = (early_end)
+-- conditions behind no definition are none
+pub late_undefined : {E : Type 0} (f : E → Tree) (o : Option (WhereClause E)) (d w : Tree)
+    → IsShaped (t.Second (t.Pair d w)) either_end → is_placed (t.Second (t.Pair d w)) ≡ true
+    → conditions f o ≡ kept w → absent ≡ kept d
+    → type_end placements.Early (is_there o) (conditions f o) absent ≡ t.Second (t.Pair (kept d) (kept w))
+late_undefined f None d w h e q r = cc (q, r)
+late_undefined f (Some c) (t.Second x) (t.Called n (t.Node j (t.First y))) h e q r = absurd (false≢true e)
+late_undefined f (Some c) (t.Second x) (t.Called n (t.Node j (t.Second y))) h e q r = cc (q)
+late_undefined f (Some c) (t.Second x) (t.Called n (t.Node j _)) h e q r = cc (q)
+late_undefined f (Some c) (t.Second x) (t.Called n _) h e q r = cc (q)
+late_undefined f (Some c) (t.Second x) _ h e q r = absurd h.1
+late_undefined f (Some c) (t.First x) w h e q r = cc (r)
+late_undefined f (Some c) _ w h e q r = absurd h.0
+
+pub ruleset ends = (early_end, late_undefined)
 
 -- without bounds
 

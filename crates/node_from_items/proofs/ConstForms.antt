@@ -15,9 +15,9 @@ use Rattle.node_views.specs.Data.{value}
 use Rattle.node_views.specs.Generics.{no_generics, no_where}
 use Rattle.node_views.specs.Items.{is_there}
 use Rattle.node_words.specs.Words as words
-use Rattle.node_from_items.specs.Values.{optional_value}
+use Rattle.node_from_items.specs.Values.{inside, optional_value}
 use Rattle.node_from_items.proofs.Found.{found_behind, found_called, found_here, found_mark, found_other, found_word}
-use Rattle.node_from_items.proofs.Found.{inside, without_generics, without_where}
+use Rattle.node_from_items.proofs.Found.{without_generics, without_where}
 
 -- a value, as a part
 

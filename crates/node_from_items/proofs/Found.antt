@@ -16,6 +16,7 @@ use Rattle.syn_grammar.specs.Verdicts.{is_generic, is_where}
 use Rattle.node_shapes.specs.Shape.{IsShaped}
 use Rattle.node_views.specs.Generics.{no_generics, no_where}
 use Rattle.node_words.specs.Words.{absent}
+use Rattle.node_from_items.specs.Values.{inside}
 
 -- what has no parts
 
@@ -46,10 +47,6 @@ pub found_other : (n m : Part) (x : Tree) (a : Gram) → same_part n m ≡ false
 found_other n m (t.Called j x) a e h =
     ap (λ i. cond (same_part n i) (Some x) None) h.0 ∙ ap (λ b. cond b (Some x) None) e
 found_other n m _ a e h = absurd h
-
-abbrev pub inside : Tree → Tree
-inside (t.Called n x) = x
-inside x = x
 
 pub found_called : (n : Part) (x : Tree) (a : Gram) → same_part n n ≡ true → IsShaped x (called n a)
     → found n x ≡ Some (inside x)

@@ -29,6 +29,11 @@ abbrev pub own : Tree → Tree
 own (t.Node k x) = x
 own x = x
 
+-- what a part is, by whatever name
+abbrev pub inside : Tree → Tree
+inside (t.Called n x) = x
+inside x = x
+
 abbrev pub const_of : {E : Type 0} → (E → Tree) → ConstParts E → Tree
 const_of f x =
     const_form x.const_token x.ident (words.mark x.colon_token) (type_ f x.ty) (words.optional (value f) x.default)
