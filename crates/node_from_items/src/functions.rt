@@ -200,7 +200,8 @@ pub fn item_fn<E: Drop, R: Maker<E>>(
 {
     let (sig, behind) = take::pair(take::node(Kind::AFunction(Place::InFile), tree));
     let sig = signature(below, Place::InFile, sig)?;
-    let Front { mut attrs, vis } = front;
+    let vis = front.vis;
+    let mut attrs = front.attrs;
     let block = fn_body(below, behind, &mut attrs)?;
     Ok(ItemFn {
         attrs,

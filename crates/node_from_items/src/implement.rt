@@ -112,7 +112,8 @@ pub fn impl_item_fn<E: Drop, R: Maker<E>>(
 {
     let (sig, behind) = take::pair(take::node(Kind::AFunction(Place::InImpl), tree));
     let sig = signature(below, Place::InImpl, sig)?;
-    let Front { mut attrs, vis } = front;
+    let vis = front.vis;
+    let mut attrs = front.attrs;
     let block = fn_body(below, behind, &mut attrs)?;
     Ok(ImplItemFn {
         attrs,

@@ -184,7 +184,8 @@ pub fn item_mod<E: Drop, R: Reader<E>>(
 {
     let (safety, mod_token, named, behind) = take::four(take::node(Kind::AModule, tree));
     let ident = name_or_try(named)?;
-    let Front { mut attrs, vis } = front;
+    let vis = front.vis;
+    let mut attrs = front.attrs;
     let Content { content, semi } = content(below, behind, &mut attrs)?;
     Ok(ItemMod {
         attrs,

@@ -287,7 +287,8 @@ fn trait_of<E: Drop, R: Maker<E>>(
     let (colon_token, supertraits) = bounds_colon(below, bounds)?;
     let conditions = optional_where(below, conditions)?;
     let generics = generics(below, take::called(params), conditions)?;
-    let Front { mut attrs, vis } = start.front;
+    let vis = start.front.vis;
+    let mut attrs = start.front.attrs;
     let (brace_token, members) = trait_content(below, enclosed, &mut attrs)?;
     Ok(ItemTrait {
         attrs,

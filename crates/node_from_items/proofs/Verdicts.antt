@@ -1,0 +1,147 @@
+-- What the verdict on an item says of what stands behind its attributes and its visibility.
+use Rattle.std.specs.Prelude.{◌≡◌, ◌&&◌, ◌||◌, ℕ, zero, suc, Bool, None, Some, true, false, not, refl}
+use Rattle.std.proofs.Common.{◌∙◌, ap, sym}
+use Rattle.std.proofs.lemmas.Bool.{false≢true}
+use Rattle.syn_grammar.specs.Gram.{Gram, Keep, Verdict, called, nothing, ref}
+use Rattle.syn_grammar.specs.Kept.{held, kept}
+use Rattle.syn_grammar.specs.Kind as k
+use Rattle.syn_grammar.specs.Name.{Part, same_part, the_body, the_default, the_item, the_pub, the_type, the_value, the_visibility}
+use Rattle.syn_grammar.specs.Part.{choice, found, has, is_some, or_else, or_nil, the}
+use Rattle.syn_grammar.specs.Table.{table}
+use Rattle.syn_grammar.specs.Tree as t
+use Rattle.syn_grammar.specs.Tree.{Tree}
+use Rattle.syn_grammar.specs.Verdicts.{const_is_raw, form_in, has_bounds, impl_is_raw, is_defined, is_public, item_verdict}
+use Rattle.syn_grammar.specs.Verdicts.{marked, raw_if, refused_if, root_inside}
+use Rattle.syn_grammar.specs.Lists.{default_there}
+use Rattle.node_shapes.specs.Shape.{IsShaped}
+use Rattle.node_take.specs.Seqs.{among}
+use Rattle.node_views.specs.Items.{private}
+use Rattle.node_words.specs.Words.{absent}
+use Rattle.node_from_items.specs.Dispatch.{foreign_parts, item_parts, member_parts}
+use Rattle.node_from_items.specs.Values.{inside, own}
+use Rattle.node_from_items.proofs.Found.{found_behind, found_called, found_here, found_node, found_other, inside_shaped}
+use Rattle.node_from_items.proofs.Found.{kept_called}
+use Rattle.node_from_items.proofs.TraitForms.{found_in, maybe_other, none_there}
+
+-- what was chosen of alternatives, where it is a node
+pub chosen_node : (m n : ℕ) (j : k.Kind) (y : Tree) → choice (among m n (t.Node j y)) ≡ t.Node j y
+chosen_node zero n j y = refl
+chosen_node (suc m) zero j y = refl
+chosen_node (suc m) (suc n) j y = chosen_node m n j y
+
+chosen_shaped : (m n : ℕ) (x : Tree) (j : k.Kind) → IsShaped x (ref j) → choice (among m n x) ≡ x
+chosen_shaped m n (t.Node i y) j h = chosen_node m n i y
+chosen_shaped m n _ j h = absurd h
+
+-- an item in a file
+
+pub file_form : (a v i f : Tree) (n : ℕ) (j : k.Kind)
+    → IsShaped (t.Pair a (t.Pair v i)) item_parts → inside i ≡ among 22 n f → IsShaped f (ref j)
+    → item_verdict k.InFile (t.Pair a (t.Pair v i)) ≡ Keep
+    → form_in k.InFile (is_public (the the_visibility (t.Pair a (t.Pair v i)))) f ≡ Keep
+unfolding same_part
+file_form a v i f n j sh e s d =
+    let x = t.Pair a (t.Pair v i) in
+    let p : found the_item x ≡ Some (inside i) =
+    found_behind the_item a _ (found_node the_item a _ sh.0)
+    ∙ found_behind the_item v _ (found_other the_item the_visibility v _ refl sh.1.0)
+    ∙ found_called the_item i _ refl sh.1.1 in
+    sym (ap (λ o. form_in k.InFile (is_public (the the_visibility x)) (choice (or_nil o))) p
+    ∙ ap (λ y. form_in k.InFile (is_public (the the_visibility x)) (choice y)) e
+    ∙ ap (form_in k.InFile (is_public (the the_visibility x))) (chosen_shaped 22 n f j s)) ∙ d
+
+-- an item in a trait or an impl
+
+default_other : (p : k.Place) (n : Part) (d : Tree) → same_part n the_default ≡ false → IsShaped d (default_there p)
+    → found n d ≡ None
+default_other k.InTrait n d e h = maybe_other n the_default d _ _ e h
+default_other k.InImpl n d e h = maybe_other n the_default d _ _ e h
+default_other k.InFile n t.Nil e h = refl
+default_other k.InFile n _ e h = absurd h
+default_other k.InForeign n t.Nil e h = refl
+default_other k.InForeign n _ e h = absurd h
+
+pub member_verdict : (p : k.Place) (a v d i f : Tree) (n : ℕ) (j : k.Kind)
+    → IsShaped (t.Pair a (t.Pair v (t.Pair d i))) (member_parts p) → inside i ≡ among 4 n f → IsShaped f (ref j)
+    → item_verdict p (t.Pair a (t.Pair v (t.Pair d i))) ≡ Keep
+    → form_in p (marked p (t.Pair a (t.Pair v (t.Pair d i)))) f ≡ Keep
+unfolding same_part
+member_verdict p a v d i f n j sh e s q =
+    let x = t.Pair a (t.Pair v (t.Pair d i)) in
+    let r : found the_item x ≡ Some (inside i) =
+    found_behind the_item a _ (found_node the_item a _ sh.0)
+    ∙ found_behind the_item v _ (found_other the_item the_visibility v _ refl sh.1.0)
+    ∙ found_behind the_item d _ (default_other p the_item d refl sh.1.1.0)
+    ∙ found_called the_item i _ refl sh.1.1.1 in
+    sym (ap (λ o. form_in p (marked p x) (choice (or_nil o))) r
+    ∙ ap (λ y. form_in p (marked p x) (choice y)) e
+    ∙ ap (form_in p (marked p x)) (chosen_shaped 4 n f j s)) ∙ q
+
+-- what is kept is neither kept as tokens nor refused
+
+pub not_raw : (b : Bool) → raw_if b ≡ Keep → b ≡ false
+not_raw true e = cc (e)
+not_raw false e = refl
+
+pub not_refused : (b : Bool) (v : Verdict) → refused_if b v ≡ Keep → (b ≡ false) × (v ≡ Keep)
+not_refused true v e = cc (e)
+not_refused false v e = (refl, e)
+
+not_either : (a b : Bool) → (a || b) ≡ false → (a ≡ false) × (b ≡ false)
+not_either true b e = absurd (false≢true (sym e))
+not_either false b e = (refl, e)
+
+not_not : (b : Bool) → not b ≡ false → b ≡ true
+not_not true e = refl
+not_not false e = absurd (false≢true (sym e))
+
+-- without pub
+
+private_node : (x : Tree) → IsShaped x (ref k.Visibility) → is_public x ≡ false → kept x ≡ private
+unfolding table held same_part
+private_node (t.Node k.Visibility (t.Second t.Nil)) h e = refl
+private_node (t.Node k.Visibility (t.Second _)) h e = absurd h.1
+private_node (t.Node k.Visibility (t.First (t.Pair q r))) h e =
+    absurd (false≢true (sym e ∙ ap is_some (found_here the_pub q r (inside q) (found_called the_pub q _ refl h.1.0))))
+private_node (t.Node k.Visibility (t.First _)) h e = absurd h.1
+private_node (t.Node k.Visibility _) h e = absurd h.1
+private_node (t.Node _ x) h e = cc (h.0)
+private_node _ h e = absurd h
+
+pub private_part : (v : Tree) → IsShaped v (called the_visibility (ref k.Visibility)) → is_public (inside v) ≡ false
+    → kept v ≡ t.Called the_visibility private
+private_part v h e =
+    kept_called the_visibility v _ h
+    ∙ ap (t.Called the_visibility) (private_node (inside v) (inside_shaped the_visibility v _ h) e)
+
+-- the visibility of an item
+
+pub the_visibility_of : (a v z : Tree) → IsShaped a (ref k.OuterAttributes)
+    → IsShaped v (called the_visibility (ref k.Visibility))
+    → the the_visibility (t.Pair a (t.Pair v z)) ≡ inside v
+unfolding same_part
+the_visibility_of a v z h s =
+    ap or_nil (found_behind the_visibility a _ (found_node the_visibility a _ h)
+    ∙ found_here the_visibility v z (inside v) (found_called the_visibility v _ refl s))
+
+-- of a member that is not marked, no pub and no default stands in front
+pub unmarked : (p : k.Place) (a v d i : Tree) → IsShaped (t.Pair a (t.Pair v (t.Pair d i))) (member_parts p)
+    → (is_public (the the_visibility (t.Pair a (t.Pair v (t.Pair d i))))
+    || has the_default (t.Pair a (t.Pair v (t.Pair d i)))) ≡ false
+    → (kept v ≡ t.Called the_visibility private) × (is_some (or_else (found the_default d) (found the_default i)) ≡ false)
+unfolding same_part
+unmarked p a v d i sh e =
+    let x = t.Pair a (t.Pair v (t.Pair d i)) in
+    let q = not_either (is_public (the the_visibility x)) (has the_default x) e in (
+      private_part v sh.1.0 (ap is_public (sym (the_visibility_of a v (t.Pair d i) sh.0 sh.1.0)) ∙ q.0),
+      sym (ap is_some (found_behind the_default a _ (found_node the_default a _ sh.0)
+      ∙ found_behind the_default v _ (found_other the_default the_visibility v _ refl sh.1.0))) ∙ q.1,
+    )
+
+pub ruleset traits = (member_verdict, unmarked, not_raw)
+
+pub ruleset impls = (member_verdict, not_raw)
+
+pub ruleset foreigns = (not_raw, not_refused)
+
+pub ruleset items = (file_form, not_raw, not_refused)

@@ -1,0 +1,71 @@
+-- What stands in an item behind what is judged of it, by its place.
+use Rattle.std.specs.Prelude.{ℕ, suc, Bool, true, false, not}
+use Rattle.syn_grammar.specs.Gram.{Gram, ref}
+use Rattle.syn_grammar.specs.Items.{maybe_safety, safety, signature_stands}
+use Rattle.syn_grammar.specs.Kind as k
+use Rattle.syn_grammar.specs.Lists.{default_there, item_form, macro_stands}
+use Rattle.syn_grammar.specs.Look.{◌then◌}
+use Rattle.syn_grammar.specs.Name.{the_item, the_visibility}
+use Rattle.syn_grammar.specs.Say.{◌∶◌, ◌▸◌, when◌read◌else◌, at, refused}
+use Rattle.syn_grammar.specs.Tree as t
+use Rattle.syn_grammar.specs.Tree.{Tree}
+
+-- attributes, visibility, and an item
+abbrev pub item_parts : Gram
+item_parts = ref k.OuterAttributes ▸ the_visibility ∶ ref k.Visibility ▸ the_item ∶ item_form
+
+-- a function, a constant, a type or a macro, in a trait or an impl
+abbrev pub member_form : k.Place → Gram
+member_form p =
+    when signature_stands p read ref (k.AFunction p)
+    else when at "const" read ref k.AConst
+    else when at "type" read ref (k.ATypeAlias p)
+    else when macro_stands read ref (k.ItemMacro p)
+    else refused
+
+-- attributes, visibility, default? and one of these
+abbrev pub member_parts : k.Place → Gram
+member_parts p =
+    ref k.OuterAttributes ▸ the_visibility ∶ ref k.Visibility ▸ default_there p ▸ the_item ∶ member_form p
+
+-- in an extern block: a function, a static with its safety, a type or a macro
+abbrev pub foreign_form : Gram
+foreign_form =
+    when signature_stands k.InForeign read the_item ∶ ref (k.AFunction k.InForeign)
+    else when maybe_safety k.InForeign then at "static" read safety k.InForeign ▸ the_item ∶ ref k.AStatic
+    else when at "type" read the_item ∶ ref (k.ATypeAlias k.InForeign)
+    else when macro_stands read the_item ∶ ref (k.ItemMacro k.InForeign)
+    else refused
+
+abbrev pub foreign_parts : Gram
+foreign_parts = ref k.OuterAttributes ▸ the_visibility ∶ ref k.Visibility ▸ foreign_form
+
+-- The number of an item's alternative is that of its kind: of a module, an extern block, an impl and a trait there are
+-- several, by whether unsafe stands in front. Of an item among others it is said of what is judged.
+abbrev pub is_unsafe : Tree → Bool
+is_unsafe (t.Pair (t.First u) x) = true
+is_unsafe x = false
+
+-- behind default? const?
+abbrev pub is_unsafe_impl : Tree → Bool
+is_unsafe_impl (t.Pair (t.Second d) (t.Pair c x)) = is_unsafe x
+is_unsafe_impl x = false
+
+-- the alternative counted so, of one of these kinds, is for what has no unsafe in front, or for what has
+abbrev pub is_form_numbered : ℕ → Tree → Bool
+is_form_numbered 2 (t.First (t.Node k.AForeignModule x)) = not (is_unsafe x)
+is_form_numbered 6 (t.First (t.Node k.AnImpl x)) = false
+is_form_numbered 8 (t.First (t.Node k.AForeignModule x)) = is_unsafe x
+is_form_numbered 9 (t.First (t.Node k.AModule x)) = is_unsafe x
+is_form_numbered 10 (t.First (t.Node k.AnImpl (t.First x))) = is_unsafe_impl x
+is_form_numbered 11 (t.First (t.Node k.ATrait (t.First x))) = is_unsafe x
+is_form_numbered 12 (t.First (t.Node k.AModule x)) = not (is_unsafe x)
+is_form_numbered 18 (t.First (t.Node k.ATrait (t.First x))) = not (is_unsafe x)
+is_form_numbered 19 (t.First (t.Node k.AnImpl (t.First x))) = not (is_unsafe_impl x)
+is_form_numbered n (t.Second x) = is_form_numbered (suc n) x
+is_form_numbered n x = true
+
+-- the same of attributes, a visibility and an item
+abbrev pub is_numbered : Tree → Bool
+is_numbered (t.Pair a (t.Pair v (t.Called n x))) = is_form_numbered 0 x
+is_numbered x = true
