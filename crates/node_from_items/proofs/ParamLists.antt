@@ -1,17 +1,22 @@
 -- Parameters one behind the other, of which the last may take any number of arguments more.
-use Rattle.std.specs.Prelude.{◌≡◌, ◌&&◌, ◌<◌, ◌≤◌, ◌+◌, ℕ, zero, suc, Bool, true, false, List, [], ◌∷◌, drop, length, refl}
+use Rattle.std.specs.Prelude.{◌≡◌, ◌&&◌, ◌<◌, ◌≤◌, ◌+◌, ℕ, zero, suc, Bool, true, false, List, [], ◌∷◌, drop, length, not, refl}
 use Rattle.std.proofs.Common.{◌∙◌, ap, arith, get_or, subst, sym}
 use Rattle.std.proofs.lemmas.Bool.{false≢true}
 use Rattle.std.proofs.lemmas.List.{drop_more}
 use Rattle.rust_leaf.specs.declared.punct.Spacing.{Spacing}
 use Rattle.rust_leaf.specs.declared.punct.Spacing.TheVariants.{Alone}
 use Rattle.syn_grammar.specs.Kept.{kept}
-use Rattle.syn_grammar.specs.Part.{each_but_last}
+use Rattle.syn_grammar.specs.Part.{each_but_first, each_but_last}
 use Rattle.syn_grammar.specs.Tree as t
 use Rattle.syn_grammar.specs.Tree.{Tree}
 use Rattle.reader_tree.specs.Forms.{elements}
 use Rattle.reader_tree.specs.declared.tree.Element.{Element}
 use Rattle.node_words.specs.Words.{all_listed}
+use Rattle.node_shapes.specs.Shape.{IsShaped}
+use Rattle.proc_macro2.specs.declared.delimiter.Delimiter.TheVariants as delimiters
+use Rattle.syn_grammar.specs.Gram.{Keep}
+use Rattle.syn_grammar.specs.Items.{are_parameters, is_receiver, is_variadic, parameters}
+use Rattle.syn_grammar.specs.Types.{kept_if}
 
 -- the element that stands there, and those behind it
 
@@ -27,13 +32,13 @@ drop_end (x ∷ xs) (suc i) l = drop_end xs i (omega (arith, l))
 
 -- one that doesn't pass is the last
 
+right : (a b : Bool) → (a && b) ≡ true → b ≡ true
+right true b q = q
+right false b q = absurd (false≢true q)
+
 behind : (p : Tree → Bool) (x : Tree) (c : ℕ) (s : Spacing) (y : Tree) → each_but_last p (t.More x c s y) ≡ true
     → each_but_last p y ≡ true
 behind p x c s (t.More y d r z) e = right (p x) (each_but_last p (t.More y d r z)) e
-  where
-    right : (a b : Bool) → (a && b) ≡ true → b ≡ true
-    right true b q = q
-    right false b q = absurd (false≢true q)
 behind p x c s _ e = refl
 
 left : (a b : Bool) → a ≡ false → (a && b) ≡ true → false ≡ true
@@ -83,5 +88,19 @@ pub dots_final : {A : Type 0} (f : A → Tree) (vs : List A) (es : List Element)
 dots_final f vs es i x v k l q w =
     ap (λ y. all_listed 44 f vs (t.Final y)) q
     ∙ ap (λ zs. all_listed 44 f vs (kept (elements 44 zs (t.Final x)))) (sym (drop_end es i l)) ∙ w
+
+-- what is judged of parameters in parentheses
+
+kept_true : (b : Bool) → kept_if b ≡ Keep → b ≡ true
+kept_true true e = refl
+kept_true false e = cc (e)
+
+pub all_but_last : (x y z : Tree) → IsShaped x parameters → x ≡ t.First y
+    → y ≡ t.Group delimiters.Parenthesis z
+    → each_but_last (λ w. not (is_variadic w)) z ≡ true
+all_but_last x y z h e d =
+    let q = subst (λ w. IsShaped w parameters) (e ∙ ap t.First d) h in
+    right (each_but_first (λ w. not (is_receiver w)) z) (each_but_last (λ w. not (is_variadic w)) z)
+    (kept_true (are_parameters z) q.0)
 
 pub ruleset lists = (left_behind, dots_followed, dots_final)

@@ -43,7 +43,7 @@ use syn_kinds::token;
 /// # Errors
 ///
 /// Where there is no memory for it.
-#[tactic(auto, @U@)]
+#[tactic(auto, unfolding(syn_grammar::specs::Table::table, syn_grammar::specs::Kept::held, syn_kinds::specs::Table::marks, syn_kinds::specs::Table::sign, syn_kinds::specs::Table::word))]
 pub fn definition<E: Drop, R: Reader<E>>(
     below: &R,
     tree: &Tree<'_>,
@@ -75,7 +75,7 @@ pub struct Defined<E> {
 }
 
 // Conditions before a definition or behind it.
-#[tactic(auto, using(crate::proofs::AliasForms::ends), @U@)]
+#[tactic(auto, using(crate::proofs::AliasForms::ends), unfolding(syn_grammar::specs::Table::table, syn_grammar::specs::Kept::held, syn_kinds::specs::Table::marks, syn_kinds::specs::Table::sign, syn_kinds::specs::Table::word))]
 fn either_defined<E: Drop, R: Reader<E>>(
     below: &R,
     tree: &Tree<'_>,
@@ -111,7 +111,7 @@ fn either_defined<E: Drop, R: Reader<E>>(
 }
 
 // Conditions behind a definition.
-#[tactic(auto, @U@)]
+#[tactic(auto, unfolding(syn_grammar::specs::Table::table, syn_grammar::specs::Kept::held, syn_kinds::specs::Table::marks, syn_kinds::specs::Table::sign, syn_kinds::specs::Table::word))]
 fn plainly_defined<E: Drop, R: Reader<E>>(
     below: &R,
     tree: &Tree<'_>,
@@ -135,7 +135,7 @@ fn plainly_defined<E: Drop, R: Reader<E>>(
 /// # Errors
 ///
 /// Where there is no memory for it.
-#[tactic(auto, using(crate::proofs::AliasForms::aliases), @U@)]
+#[tactic(auto, using(crate::proofs::AliasForms::aliases), unfolding(syn_grammar::specs::Table::table, syn_grammar::specs::Kept::held, syn_kinds::specs::Table::marks, syn_kinds::specs::Table::sign, syn_kinds::specs::Table::word))]
 pub fn item_type<E: Drop, R: Reader<E>>(
     below: &R,
     front: Front<E>,
@@ -181,7 +181,7 @@ pub fn item_type<E: Drop, R: Reader<E>>(
 /// # Errors
 ///
 /// Where there is no memory for it.
-#[tactic(auto, using(crate::proofs::AliasForms::aliases), @U@)]
+#[tactic(auto, using(crate::proofs::AliasForms::aliases), unfolding(syn_grammar::specs::Table::table, syn_grammar::specs::Kept::held, syn_kinds::specs::Table::marks, syn_kinds::specs::Table::sign, syn_kinds::specs::Table::word))]
 pub fn impl_item_type<E: Drop, R: Reader<E>>(
     below: &R,
     front: Front<E>,
@@ -226,7 +226,7 @@ pub fn impl_item_type<E: Drop, R: Reader<E>>(
 /// # Errors
 ///
 /// Where there is no memory for it.
-#[tactic(auto, @U@)]
+#[tactic(auto, unfolding(syn_grammar::specs::Table::table, syn_grammar::specs::Kept::held, syn_kinds::specs::Table::marks, syn_kinds::specs::Table::sign, syn_kinds::specs::Table::word))]
 pub fn trait_item_type<E: Drop, R: Reader<E>>(
     below: &R,
     attrs: Vec<Attribute<E>>,
@@ -266,7 +266,7 @@ pub fn trait_item_type<E: Drop, R: Reader<E>>(
 /// # Errors
 ///
 /// Where there is no memory for it.
-#[tactic(auto, using(crate::proofs::AliasForms::aliases), @U@)]
+#[tactic(auto, using(crate::proofs::AliasForms::aliases), unfolding(syn_grammar::specs::Table::table, syn_grammar::specs::Kept::held, syn_kinds::specs::Table::marks, syn_kinds::specs::Table::sign, syn_kinds::specs::Table::word))]
 pub fn foreign_item_type<E: Drop, R: Reader<E>>(
     below: &R,
     front: Front<E>,

@@ -39,7 +39,7 @@ use syn_kinds::token;
 /// # Errors
 ///
 /// Where there is no memory for it.
-#[tactic(auto, using(node_from::proofs::Chosen::same_underscore), @U@)]
+#[tactic(auto, using(node_from::proofs::Chosen::same_underscore), unfolding(syn_grammar::specs::Table::table, syn_grammar::specs::Kept::held, syn_kinds::specs::Table::marks, syn_kinds::specs::Table::sign, syn_kinds::specs::Table::word))]
 pub fn named_field<E: Drop, R: Reader<E>>(
     below: &R,
     tree: &Tree<'_>,
@@ -67,7 +67,7 @@ pub fn named_field<E: Drop, R: Reader<E>>(
 /// # Errors
 ///
 /// Where there is no memory for it.
-#[tactic(auto, using(crate::proofs::Parts::no_value), @U@)]
+#[tactic(auto, using(crate::proofs::Parts::no_value), unfolding(syn_grammar::specs::Table::table, syn_grammar::specs::Kept::held, syn_kinds::specs::Table::marks, syn_kinds::specs::Table::sign, syn_kinds::specs::Table::word))]
 pub fn unnamed_field<E: Drop, R: Reader<E>>(
     below: &R,
     tree: &Tree<'_>,
@@ -142,7 +142,7 @@ impl<'r, E: Drop, R: Reader<E>> Make<Field<E>> for UnnamedMaker<'r, R> {
 /// # Errors
 ///
 /// Where there is no memory for it.
-#[tactic(auto, @U@)]
+#[tactic(auto, unfolding(syn_grammar::specs::Table::table, syn_grammar::specs::Kept::held, syn_kinds::specs::Table::marks, syn_kinds::specs::Table::sign, syn_kinds::specs::Table::word))]
 pub fn fields_named<E: Drop, R: Reader<E>>(
     below: &R,
     tree: &Tree<'_>,
@@ -164,7 +164,7 @@ pub fn fields_named<E: Drop, R: Reader<E>>(
 /// # Errors
 ///
 /// Where there is no memory for it.
-#[tactic(auto, @U@)]
+#[tactic(auto, unfolding(syn_grammar::specs::Table::table, syn_grammar::specs::Kept::held, syn_kinds::specs::Table::marks, syn_kinds::specs::Table::sign, syn_kinds::specs::Table::word))]
 pub fn fields_unnamed<E: Drop, R: Reader<E>>(
     below: &R,
     tree: &Tree<'_>,
@@ -182,7 +182,7 @@ pub fn fields_unnamed<E: Drop, R: Reader<E>>(
 }
 
 // The fields of a variant.
-#[tactic(auto, @U@)]
+#[tactic(auto, unfolding(syn_grammar::specs::Table::table, syn_grammar::specs::Kept::held, syn_kinds::specs::Table::marks, syn_kinds::specs::Table::sign, syn_kinds::specs::Table::word))]
 fn fields<E: Drop, R: Reader<E>>(
     below: &R,
     tree: &Tree<'_>,
@@ -205,7 +205,7 @@ fn fields<E: Drop, R: Reader<E>>(
 /// # Errors
 ///
 /// Where there is no memory for it.
-#[tactic(auto, using(crate::proofs::Parts::none_kept), @U@)]
+#[tactic(auto, using(crate::proofs::Parts::none_kept), unfolding(syn_grammar::specs::Table::table, syn_grammar::specs::Kept::held, syn_kinds::specs::Table::marks, syn_kinds::specs::Table::sign, syn_kinds::specs::Table::word))]
 pub fn variant<E: Drop, R: Reader<E>>(
     below: &R,
     tree: &Tree<'_>,
@@ -250,7 +250,7 @@ impl<'r, E: Drop, R: Reader<E>> Make<Variant<E>> for Variants<'r, R> {
 }
 
 // What stands behind the parameters of a struct: its fields, its conditions, and its `;`.
-#[tactic(auto, @U@)]
+#[tactic(auto, unfolding(syn_grammar::specs::Table::table, syn_grammar::specs::Kept::held, syn_kinds::specs::Table::marks, syn_kinds::specs::Table::sign, syn_kinds::specs::Table::word))]
 fn struct_end<E: Drop, R: Reader<E>>(
     below: &R,
     tree: &Tree<'_>,
@@ -283,7 +283,7 @@ fn struct_end<E: Drop, R: Reader<E>>(
 /// # Errors
 ///
 /// Where there is no memory for it.
-#[tactic(auto, @U@)]
+#[tactic(auto, unfolding(syn_grammar::specs::Table::table, syn_grammar::specs::Kept::held, syn_kinds::specs::Table::marks, syn_kinds::specs::Table::sign, syn_kinds::specs::Table::word))]
 pub fn item_struct<E: Drop, R: Reader<E>>(
     below: &R,
     front: Front<E>,
@@ -316,7 +316,7 @@ pub fn item_struct<E: Drop, R: Reader<E>>(
 /// # Errors
 ///
 /// Where there is no memory for it.
-#[tactic(auto, @U@)]
+#[tactic(auto, unfolding(syn_grammar::specs::Table::table, syn_grammar::specs::Kept::held, syn_kinds::specs::Table::marks, syn_kinds::specs::Table::sign, syn_kinds::specs::Table::word))]
 pub fn item_enum<E: Drop, R: Reader<E>>(
     below: &R,
     front: Front<E>,
@@ -351,7 +351,7 @@ pub fn item_enum<E: Drop, R: Reader<E>>(
 /// # Errors
 ///
 /// Where there is no memory for it.
-#[tactic(auto, @U@)]
+#[tactic(auto, unfolding(syn_grammar::specs::Table::table, syn_grammar::specs::Kept::held, syn_kinds::specs::Table::marks, syn_kinds::specs::Table::sign, syn_kinds::specs::Table::word))]
 pub fn item_union<E: Drop, R: Reader<E>>(
     below: &R,
     front: Front<E>,

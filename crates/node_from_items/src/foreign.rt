@@ -45,7 +45,7 @@ use std::alloc::{AllocError, Global};
 use syn_kinds::token;
 
 // The `;` of a function without a body.
-#[tactic(auto, @U@)]
+#[tactic(auto, unfolding(syn_grammar::specs::Table::table, syn_grammar::specs::Kept::held, syn_kinds::specs::Table::marks, syn_kinds::specs::Table::sign, syn_kinds::specs::Table::word))]
 fn semicolon(tree: &Tree<'_>) -> token::Semi
     requires shaped { IsShaped tree.now body_or_semicolon }
     requires bodiless { is_there tree.now ≡ false }
@@ -62,7 +62,7 @@ fn semicolon(tree: &Tree<'_>) -> token::Semi
 /// # Errors
 ///
 /// Where there is no memory for it.
-#[tactic(auto, using(crate::proofs::FunctionForms::bodiless), @U@)]
+#[tactic(auto, using(crate::proofs::FunctionForms::bodiless), unfolding(syn_grammar::specs::Table::table, syn_grammar::specs::Kept::held, syn_kinds::specs::Table::marks, syn_kinds::specs::Table::sign, syn_kinds::specs::Table::word))]
 pub fn foreign_item_fn<E: Drop, R: Reader<E>>(
     below: &R,
     front: Front<E>,
@@ -91,7 +91,7 @@ pub fn foreign_item_fn<E: Drop, R: Reader<E>>(
 /// # Errors
 ///
 /// Where there is no memory for it.
-#[tactic(auto, @U@)]
+#[tactic(auto, unfolding(syn_grammar::specs::Table::table, syn_grammar::specs::Kept::held, syn_kinds::specs::Table::marks, syn_kinds::specs::Table::sign, syn_kinds::specs::Table::word))]
 pub fn foreign_item_static<E: Drop, R: Reader<E>>(
     below: &R,
     front: Front<E>,
@@ -158,7 +158,7 @@ pub fn foreign_item_macro<E: Drop, R: Reader<E>>(
 }
 
 // An item of an extern block that is kept.
-#[tactic(auto, using(crate::proofs::Verdicts::foreigns), @U@)]
+#[tactic(auto, using(crate::proofs::Verdicts::foreigns), unfolding(syn_grammar::specs::Table::table, syn_grammar::specs::Kept::held, syn_kinds::specs::Table::marks, syn_kinds::specs::Table::sign, syn_kinds::specs::Table::word))]
 fn kept_foreign_item<E: Drop, R: Reader<E>>(
     below: &R,
     tree: &Tree<'_>,
@@ -205,7 +205,7 @@ fn kept_foreign_item<E: Drop, R: Reader<E>>(
 /// # Errors
 ///
 /// Where there is no memory for it.
-#[tactic(auto, @U@)]
+#[tactic(auto, unfolding(syn_grammar::specs::Table::table, syn_grammar::specs::Kept::held, syn_kinds::specs::Table::marks, syn_kinds::specs::Table::sign, syn_kinds::specs::Table::word))]
 pub fn foreign_item<E: Drop, R: Reader<E>>(
     below: &R,
     tree: &Tree<'_>,
@@ -246,7 +246,7 @@ impl<'r, E: Drop, R: Reader<E>> Make<ForeignItem<E>> for ForeignItems<'r, R> {
 }
 
 // The items of an extern block, with the attributes inside put behind those in front.
-#[tactic(auto, @U@)]
+#[tactic(auto, unfolding(syn_grammar::specs::Table::table, syn_grammar::specs::Kept::held, syn_kinds::specs::Table::marks, syn_kinds::specs::Table::sign, syn_kinds::specs::Table::word))]
 fn foreign_content<E: Drop, R: Reader<E>>(
     below: &R,
     tree: &Tree<'_>,
@@ -275,7 +275,7 @@ fn foreign_content<E: Drop, R: Reader<E>>(
 /// # Errors
 ///
 /// Where there is no memory for it.
-#[tactic(auto, @U@)]
+#[tactic(auto, unfolding(syn_grammar::specs::Table::table, syn_grammar::specs::Kept::held, syn_kinds::specs::Table::marks, syn_kinds::specs::Table::sign, syn_kinds::specs::Table::word))]
 pub fn item_foreign_mod<E: Drop, R: Reader<E>>(
     below: &R,
     mut attrs: Vec<Attribute<E>>,

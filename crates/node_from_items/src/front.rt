@@ -34,7 +34,7 @@ pub struct Front<E> {
 /// # Errors
 ///
 /// Where there is no memory for it.
-#[tactic(auto, @U@)]
+#[tactic(auto, unfolding(syn_grammar::specs::Table::table, syn_grammar::specs::Kept::held, syn_kinds::specs::Table::marks, syn_kinds::specs::Table::sign, syn_kinds::specs::Table::word))]
 pub fn front<E: Drop, R: Reader<E>>(
     below: &R,
     attrs: &Tree<'_>,

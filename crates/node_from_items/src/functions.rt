@@ -42,7 +42,7 @@ use syn_kinds::token;
 use syn_lists::Punctuated;
 
 // Whether it is declared unsafe.
-#[tactic(auto, @U@)]
+#[tactic(auto, unfolding(syn_grammar::specs::Table::table, syn_grammar::specs::Kept::held, syn_kinds::specs::Table::marks, syn_kinds::specs::Table::sign, syn_kinds::specs::Table::word))]
 fn maybe_unsafe(tree: &Tree<'_>) -> Safety
     requires { IsShaped tree.now optional_unsafe }
     ensures { views.safety result ≡ kept tree.now }
@@ -70,7 +70,7 @@ fn declared(tree: &Tree<'_>) -> Safety
 }
 
 /// Whether what stands in that place is declared unsafe; in an extern block, or safe.
-#[tactic(auto, @U@)]
+#[tactic(auto, unfolding(syn_grammar::specs::Table::table, syn_grammar::specs::Kept::held, syn_kinds::specs::Table::marks, syn_kinds::specs::Table::sign, syn_kinds::specs::Table::word))]
 pub fn safety(place: Place, tree: &Tree<'_>) -> Safety
     requires { IsShaped tree.now (grammar.safety (place_of place)) }
     ensures { views.safety result ≡ kept tree.now }
@@ -87,7 +87,7 @@ pub fn safety(place: Place, tree: &Tree<'_>) -> Safety
 }
 
 // The parameters in parentheses.
-#[tactic(auto, @U@)]
+#[tactic(auto, unfolding(syn_grammar::specs::Table::table, syn_grammar::specs::Kept::held, syn_kinds::specs::Table::marks, syn_kinds::specs::Table::sign, syn_kinds::specs::Table::word))]
 fn enclosed_params<E: Drop, R: Reader<E>>(
     below: &R,
     tree: &Tree<'_>,
@@ -115,7 +115,7 @@ fn enclosed_params<E: Drop, R: Reader<E>>(
 /// # Errors
 ///
 /// Where there is no memory for it.
-#[tactic(auto, @U@)]
+#[tactic(auto, unfolding(syn_grammar::specs::Table::table, syn_grammar::specs::Kept::held, syn_kinds::specs::Table::marks, syn_kinds::specs::Table::sign, syn_kinds::specs::Table::word))]
 pub fn signature<E: Drop, R: Reader<E>>(
     below: &R,
     place: Place,
@@ -155,7 +155,7 @@ pub fn signature<E: Drop, R: Reader<E>>(
 /// # Errors
 ///
 /// Where there is no memory for it.
-#[tactic(auto, @U@)]
+#[tactic(auto, unfolding(syn_grammar::specs::Table::table, syn_grammar::specs::Kept::held, syn_kinds::specs::Table::marks, syn_kinds::specs::Table::sign, syn_kinds::specs::Table::word))]
 pub fn fn_body<E: Drop, R: Maker<E>>(
     below: &R,
     tree: &Tree<'_>,
@@ -184,7 +184,7 @@ pub fn fn_body<E: Drop, R: Maker<E>>(
 /// # Errors
 ///
 /// Where there is no memory for it.
-#[tactic(auto, using(crate::proofs::FunctionForms::functions), @U@)]
+#[tactic(auto, using(crate::proofs::FunctionForms::functions), unfolding(syn_grammar::specs::Table::table, syn_grammar::specs::Kept::held, syn_kinds::specs::Table::marks, syn_kinds::specs::Table::sign, syn_kinds::specs::Table::word))]
 pub fn item_fn<E: Drop, R: Maker<E>>(
     below: &R,
     front: Front<E>,

@@ -95,7 +95,7 @@ pub fn impl_item_const<E: Drop, R: Reader<E>>(
 /// # Errors
 ///
 /// Where there is no memory for it.
-#[tactic(auto, using(crate::proofs::FunctionForms::functions), @U@)]
+#[tactic(auto, using(crate::proofs::FunctionForms::functions), unfolding(syn_grammar::specs::Table::table, syn_grammar::specs::Kept::held, syn_kinds::specs::Table::marks, syn_kinds::specs::Table::sign, syn_kinds::specs::Table::word))]
 pub fn impl_item_fn<E: Drop, R: Maker<E>>(
     below: &R,
     front: Front<E>,
@@ -149,7 +149,7 @@ pub fn impl_item_macro<E: Drop, R: Reader<E>>(
 }
 
 /// `default`, if it is there.
-#[tactic(auto, @U@)]
+#[tactic(auto, unfolding(syn_grammar::specs::Table::table, syn_grammar::specs::Kept::held, syn_kinds::specs::Table::marks, syn_kinds::specs::Table::sign, syn_kinds::specs::Table::word))]
 pub fn defaultness(tree: &Tree<'_>) -> Option<token::Default>
     requires { IsShaped tree.now optional_default }
     ensures { words.optional views.default result ≡ kept tree.now }
@@ -161,7 +161,7 @@ pub fn defaultness(tree: &Tree<'_>) -> Option<token::Default>
 }
 
 // `!` in front of the trait, if it is there.
-#[tactic(auto, @U@)]
+#[tactic(auto, unfolding(syn_grammar::specs::Table::table, syn_grammar::specs::Kept::held, syn_kinds::specs::Table::marks, syn_kinds::specs::Table::sign, syn_kinds::specs::Table::word))]
 fn polarity(tree: &Tree<'_>) -> Option<token::Not>
     requires { IsShaped tree.now optional_polarity }
     ensures { words.optional views.polarity result ≡ kept tree.now }
@@ -173,7 +173,7 @@ fn polarity(tree: &Tree<'_>) -> Option<token::Not>
 }
 
 // The path that a type is.
-#[tactic(auto, using(crate::proofs::PathTypes::paths), @U@)]
+#[tactic(auto, using(crate::proofs::PathTypes::paths), unfolding(syn_grammar::specs::Table::table, syn_grammar::specs::Kept::held, syn_kinds::specs::Table::marks, syn_kinds::specs::Table::sign, syn_kinds::specs::Table::word))]
 fn path_of<E: Drop, R: Reader<E>>(below: &R, tree: &Tree<'_>) -> Result<Path<E>, AllocError>
     requires ready { R.ready below.now }
     requires shaped { IsShaped tree.now (g.ref (k.AType k.WithPlus)) }
@@ -201,7 +201,7 @@ pub struct Head<E> {
 }
 
 // What an impl is of.
-#[tactic(auto, @U@)]
+#[tactic(auto, unfolding(syn_grammar::specs::Table::table, syn_grammar::specs::Kept::held, syn_kinds::specs::Table::marks, syn_kinds::specs::Table::sign, syn_kinds::specs::Table::word))]
 fn head<E: Drop, R: Reader<E>>(
     below: &R,
     first: &Tree<'_>,
@@ -233,7 +233,7 @@ fn head<E: Drop, R: Reader<E>>(
 }
 
 // The items of an impl, with the attributes inside put behind those in front.
-#[tactic(auto, @U@)]
+#[tactic(auto, unfolding(syn_grammar::specs::Table::table, syn_grammar::specs::Kept::held, syn_kinds::specs::Table::marks, syn_kinds::specs::Table::sign, syn_kinds::specs::Table::word))]
 fn impl_content<E: Drop, R: Maker<E>>(
     below: &R,
     tree: &Tree<'_>,
@@ -259,7 +259,7 @@ fn impl_content<E: Drop, R: Maker<E>>(
 /// # Errors
 ///
 /// Where there is no memory for it.
-#[tactic(auto, using(crate::proofs::ImplForms::impls), @U@)]
+#[tactic(auto, using(crate::proofs::ImplForms::impls), unfolding(syn_grammar::specs::Table::table, syn_grammar::specs::Kept::held, syn_kinds::specs::Table::marks, syn_kinds::specs::Table::sign, syn_kinds::specs::Table::word))]
 pub fn item_impl<E: Drop, R: Maker<E>>(
     below: &R,
     mut attrs: Vec<Attribute<E>>,

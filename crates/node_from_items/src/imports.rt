@@ -44,7 +44,7 @@ fn use_name(tree: &Tree<'_>) -> Result<Ident, AllocError>
 
 // What stands behind a name: what it holds, or another name, or nothing.
 #[cycle(importing)]
-#[tactic(auto, @U@)]
+#[tactic(auto, unfolding(syn_grammar::specs::Table::table, syn_grammar::specs::Kept::held, syn_kinds::specs::Table::marks, syn_kinds::specs::Table::sign, syn_kinds::specs::Table::word))]
 fn named(alloc: Global, ident: Ident, tree: &Tree<'_>) -> Result<UseTree, AllocError>
     requires { IsShaped tree.now behind_name }
     ensures { IfOk result (λ x. views.use_tree x ≡ views.use_branch (t.Second (views.use_name ident
@@ -76,7 +76,7 @@ fn named(alloc: Global, ident: Ident, tree: &Tree<'_>) -> Result<UseTree, AllocE
 
 // All names, or a name and what stands behind it.
 #[cycle(importing)]
-#[tactic(auto, @U@)]
+#[tactic(auto, unfolding(syn_grammar::specs::Table::table, syn_grammar::specs::Kept::held, syn_kinds::specs::Table::marks, syn_kinds::specs::Table::sign, syn_kinds::specs::Table::word))]
 fn branch(alloc: Global, tree: &Tree<'_>) -> Result<UseTree, AllocError>
     requires { IsShaped tree.now (g.ref k.UseBranch) }
     ensures { IfOk result (λ x. views.use_tree x ≡ whole (kept tree.now)) }
@@ -120,7 +120,7 @@ fn use_trees(
 ///
 /// Where there is no memory for it.
 #[cycle(importing)]
-#[tactic(auto, @U@)]
+#[tactic(auto, unfolding(syn_grammar::specs::Table::table, syn_grammar::specs::Kept::held, syn_kinds::specs::Table::marks, syn_kinds::specs::Table::sign, syn_kinds::specs::Table::word))]
 pub fn use_tree(alloc: Global, tree: &Tree<'_>) -> Result<UseTree, AllocError>
     requires { IsShaped tree.now (g.ref k.UseTree) }
     ensures { IfOk result (λ x. views.use_tree x ≡ kept tree.now) }
@@ -157,7 +157,7 @@ fn tops(alloc: Global, tree: &Tree<'_>) -> Result<Punctuated<UseTree, token::Com
 
 // What is imported where it may begin with `::` and doesn't.
 #[cycle(rooting)]
-#[tactic(auto, @U@)]
+#[tactic(auto, unfolding(syn_grammar::specs::Table::table, syn_grammar::specs::Kept::held, syn_kinds::specs::Table::marks, syn_kinds::specs::Table::sign, syn_kinds::specs::Table::word))]
 fn top(alloc: Global, tree: &Tree<'_>) -> Result<UseTree, AllocError>
     requires shaped { IsShaped tree.now (g.ref k.UseTop) }
     requires rootless { has_root tree.now ≡ false }
@@ -171,7 +171,7 @@ fn top(alloc: Global, tree: &Tree<'_>) -> Result<UseTree, AllocError>
 
 // What is imported, where no path stands before it.
 #[cycle(rooting)]
-#[tactic(auto, @U@)]
+#[tactic(auto, unfolding(syn_grammar::specs::Table::table, syn_grammar::specs::Kept::held, syn_kinds::specs::Table::marks, syn_kinds::specs::Table::sign, syn_kinds::specs::Table::word))]
 fn use_rooted(alloc: Global, tree: &Tree<'_>) -> Result<UseTree, AllocError>
     requires shaped { IsShaped tree.now (g.ref k.UseRooted) }
     requires rootless { has_root tree.now ≡ false }
@@ -188,7 +188,7 @@ fn use_rooted(alloc: Global, tree: &Tree<'_>) -> Result<UseTree, AllocError>
 }
 
 // What is imported, with the `::` in front, if it is there.
-#[tactic(auto, @U@)]
+#[tactic(auto, unfolding(syn_grammar::specs::Table::table, syn_grammar::specs::Kept::held, syn_kinds::specs::Table::marks, syn_kinds::specs::Table::sign, syn_kinds::specs::Table::word))]
 fn imported(
     alloc: Global,
     tree: &Tree<'_>,
@@ -212,7 +212,7 @@ fn imported(
 /// # Errors
 ///
 /// Where there is no memory for it.
-#[tactic(auto, using(crate::proofs::ImportNames::paths), @U@)]
+#[tactic(auto, using(crate::proofs::ImportNames::paths), unfolding(syn_grammar::specs::Table::table, syn_grammar::specs::Kept::held, syn_kinds::specs::Table::marks, syn_kinds::specs::Table::sign, syn_kinds::specs::Table::word))]
 pub fn item_use<E: Drop, R: Reader<E>>(
     below: &R,
     front: Front<E>,

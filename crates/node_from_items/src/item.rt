@@ -180,7 +180,7 @@ fn of_traits<E: Drop, R: ItemMaker<E>>(below: &R, traits: Traits<E>) -> Result<E
 }
 
 // An item that is kept.
-#[tactic(auto, using(crate::proofs::Verdicts::items), @U@)]
+#[tactic(auto, using(crate::proofs::Verdicts::items), unfolding(syn_grammar::specs::Table::table, syn_grammar::specs::Kept::held, syn_kinds::specs::Table::marks, syn_kinds::specs::Table::sign, syn_kinds::specs::Table::word))]
 fn kept_item<E: Drop, R: ItemMaker<E>>(below: &R, tree: &Tree<'_>) -> Result<E, AllocError>
     requires ready { R.ready below.now }
     requires shaped { IsShaped tree.now item_parts }
@@ -216,7 +216,7 @@ fn kept_item<E: Drop, R: ItemMaker<E>>(below: &R, tree: &Tree<'_>) -> Result<E, 
 /// # Errors
 ///
 /// Where there is no memory for it.
-#[tactic(auto, @U@)]
+#[tactic(auto, unfolding(syn_grammar::specs::Table::table, syn_grammar::specs::Kept::held, syn_kinds::specs::Table::marks, syn_kinds::specs::Table::sign, syn_kinds::specs::Table::word))]
 pub fn item<E: Drop, R: ItemMaker<E>>(below: &R, tree: &Tree<'_>) -> Result<E, AllocError>
     requires ready { R.ready below.now }
     requires shaped { IsShaped tree.now (g.ref k.AnItem) }

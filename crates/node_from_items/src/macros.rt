@@ -44,7 +44,7 @@ pub struct Body {
 /// # Errors
 ///
 /// Where there is no memory for it.
-#[tactic(auto, @U@)]
+#[tactic(auto, unfolding(syn_grammar::specs::Table::table, syn_grammar::specs::Kept::held, syn_kinds::specs::Table::marks, syn_kinds::specs::Table::sign, syn_kinds::specs::Table::word))]
 pub fn macro_body(alloc: Global, tree: &Tree<'_>) -> Result<Body, AllocError>
     requires { IsShaped tree.now macro_end }
     ensures { IfOk result (λ x. views.macro_end x.delimiter (words.raw x.tokens) x.semi_token ≡ kept tree.now) }
@@ -83,7 +83,7 @@ pub fn macro_body(alloc: Global, tree: &Tree<'_>) -> Result<Body, AllocError>
 }
 
 // The name behind the `!`, if it is there.
-#[tactic(auto, @U@)]
+#[tactic(auto, unfolding(syn_grammar::specs::Table::table, syn_grammar::specs::Kept::held, syn_kinds::specs::Table::marks, syn_kinds::specs::Table::sign, syn_kinds::specs::Table::word))]
 fn own_name(tree: &Tree<'_>) -> Result<Option<Ident>, AllocError>
     requires { IsShaped tree.now macro_name }
     ensures { IfOk result (λ o. words.optional views.macro_name o ≡ kept tree.now) }
@@ -99,7 +99,7 @@ fn own_name(tree: &Tree<'_>) -> Result<Option<Ident>, AllocError>
 /// # Errors
 ///
 /// Where there is no memory for it.
-#[tactic(auto, @U@)]
+#[tactic(auto, unfolding(syn_grammar::specs::Table::table, syn_grammar::specs::Kept::held, syn_kinds::specs::Table::marks, syn_kinds::specs::Table::sign, syn_kinds::specs::Table::word))]
 pub fn item_macro<E: Drop, R: Reader<E>>(
     below: &R,
     attrs: Vec<Attribute<E>>,
@@ -138,7 +138,7 @@ pub fn item_macro<E: Drop, R: Reader<E>>(
 /// # Errors
 ///
 /// Where there is no memory for it.
-#[tactic(auto, using(crate::proofs::Parts::no_name), @U@)]
+#[tactic(auto, using(crate::proofs::Parts::no_name), unfolding(syn_grammar::specs::Table::table, syn_grammar::specs::Kept::held, syn_kinds::specs::Table::marks, syn_kinds::specs::Table::sign, syn_kinds::specs::Table::word))]
 pub fn member_macro<E: Drop, R: Reader<E>>(
     below: &R,
     place: Place,

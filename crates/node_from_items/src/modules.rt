@@ -30,7 +30,7 @@ use std::alloc::{AllocError, Global};
 use syn_kinds::token;
 
 // The name that a crate gets, if it gets another one, with the `as` before it.
-#[tactic(auto, @U@)]
+#[tactic(auto, unfolding(syn_grammar::specs::Table::table, syn_grammar::specs::Kept::held, syn_kinds::specs::Table::marks, syn_kinds::specs::Table::sign, syn_kinds::specs::Table::word))]
 fn renamed(tree: &Tree<'_>) -> Result<Option<(token::As, Ident)>, AllocError>
     requires { IsShaped tree.now optional_rename }
     ensures { IfOk result (λ o. words.optional views.renamed o ≡ kept tree.now) }
@@ -50,7 +50,7 @@ fn renamed(tree: &Tree<'_>) -> Result<Option<(token::As, Ident)>, AllocError>
 /// # Errors
 ///
 /// Where there is no memory for it.
-#[tactic(auto, @U@)]
+#[tactic(auto, unfolding(syn_grammar::specs::Table::table, syn_grammar::specs::Kept::held, syn_kinds::specs::Table::marks, syn_kinds::specs::Table::sign, syn_kinds::specs::Table::word))]
 pub fn item_extern_crate<E: Drop, R: Reader<E>>(
     below: &R,
     front: Front<E>,
@@ -102,7 +102,7 @@ impl<'r, E: Drop, R: Reader<E>> Make<E> for Items<'r, R> {
 }
 
 // The items that stand in braces.
-#[tactic(auto, @U@)]
+#[tactic(auto, unfolding(syn_grammar::specs::Table::table, syn_grammar::specs::Kept::held, syn_kinds::specs::Table::marks, syn_kinds::specs::Table::sign, syn_kinds::specs::Table::word))]
 fn items<E: Drop, R: Reader<E>>(below: &R, tree: &Tree<'_>) -> Result<Vec<E>, AllocError>
     requires ready { R.ready below.now }
     requires shaped { IsShaped tree.now (g.ref k.Items) }
@@ -122,7 +122,7 @@ pub struct Content<E> {
 }
 
 // The items of a module, if they are there, with the attributes inside put behind those in front.
-#[tactic(auto, @U@)]
+#[tactic(auto, unfolding(syn_grammar::specs::Table::table, syn_grammar::specs::Kept::held, syn_kinds::specs::Table::marks, syn_kinds::specs::Table::sign, syn_kinds::specs::Table::word))]
 fn content<E: Drop, R: Reader<E>>(
     below: &R,
     tree: &Tree<'_>,
@@ -153,7 +153,7 @@ fn content<E: Drop, R: Reader<E>>(
 }
 
 /// `unsafe`, if it is there.
-#[tactic(auto, @U@)]
+#[tactic(auto, unfolding(syn_grammar::specs::Table::table, syn_grammar::specs::Kept::held, syn_kinds::specs::Table::marks, syn_kinds::specs::Table::sign, syn_kinds::specs::Table::word))]
 pub fn unsafety(tree: &Tree<'_>) -> Option<token::Unsafe>
     requires { IsShaped tree.now optional_unsafe }
     ensures { words.optional views.unsafety result ≡ kept tree.now }
@@ -169,7 +169,7 @@ pub fn unsafety(tree: &Tree<'_>) -> Option<token::Unsafe>
 /// # Errors
 ///
 /// Where there is no memory for it.
-#[tactic(auto, @U@)]
+#[tactic(auto, unfolding(syn_grammar::specs::Table::table, syn_grammar::specs::Kept::held, syn_kinds::specs::Table::marks, syn_kinds::specs::Table::sign, syn_kinds::specs::Table::word))]
 pub fn item_mod<E: Drop, R: Reader<E>>(
     below: &R,
     front: Front<E>,

@@ -33,7 +33,7 @@ use syn_kinds::token;
 use syn_lists::Punctuated;
 
 // How a method takes what it is called on, where no `&` stands in front.
-#[tactic(auto, @U@)]
+#[tactic(auto, unfolding(syn_grammar::specs::Table::table, syn_grammar::specs::Kept::held, syn_kinds::specs::Table::marks, syn_kinds::specs::Table::sign, syn_kinds::specs::Table::word))]
 fn plain_kind<E: Drop, R: Reader<E>>(
     below: &R,
     tree: &Tree<'_>,
@@ -60,7 +60,7 @@ fn plain_kind<E: Drop, R: Reader<E>>(
 /// # Errors
 ///
 /// Where there is no memory for it.
-#[tactic(auto, @U@)]
+#[tactic(auto, unfolding(syn_grammar::specs::Table::table, syn_grammar::specs::Kept::held, syn_kinds::specs::Table::marks, syn_kinds::specs::Table::sign, syn_kinds::specs::Table::word))]
 pub fn receiver<E: Drop, R: Reader<E>>(
     below: &R,
     attrs: Vec<Attribute<E>>,
@@ -143,7 +143,7 @@ fn followed<E>(variadic: Variadic<E>, comma: token::Comma) -> Variadic<E>
 /// # Errors
 ///
 /// Where there is no memory for it.
-#[tactic(auto, @U@)]
+#[tactic(auto, unfolding(syn_grammar::specs::Table::table, syn_grammar::specs::Kept::held, syn_kinds::specs::Table::marks, syn_kinds::specs::Table::sign, syn_kinds::specs::Table::word))]
 pub fn param<E: Drop, R: Reader<E>>(below: &R, tree: &Tree<'_>) -> Result<Param<E>, AllocError>
     requires ready { R.ready below.now }
     requires shaped { IsShaped tree.now (g.ref k.Parameter) }

@@ -87,7 +87,7 @@ pub fn trait_item_const<E: Drop, R: Reader<E>>(
 }
 
 // A function of a trait, of its signature and what stands behind that.
-#[tactic(auto, @U@)]
+#[tactic(auto, unfolding(syn_grammar::specs::Table::table, syn_grammar::specs::Kept::held, syn_kinds::specs::Table::marks, syn_kinds::specs::Table::sign, syn_kinds::specs::Table::word))]
 fn fn_of<E: Drop, R: Maker<E>>(
     below: &R,
     mut attrs: Vec<Attribute<E>>,
@@ -129,7 +129,7 @@ fn fn_of<E: Drop, R: Maker<E>>(
 /// # Errors
 ///
 /// Where there is no memory for it.
-#[tactic(auto, @U@)]
+#[tactic(auto, unfolding(syn_grammar::specs::Table::table, syn_grammar::specs::Kept::held, syn_kinds::specs::Table::marks, syn_kinds::specs::Table::sign, syn_kinds::specs::Table::word))]
 pub fn trait_item_fn<E: Drop, R: Maker<E>>(
     below: &R,
     attrs: Vec<Attribute<E>>,
@@ -196,7 +196,7 @@ pub struct TraitFront<E> {
 }
 
 // `auto`, if it is there.
-#[tactic(auto, @U@)]
+#[tactic(auto, unfolding(syn_grammar::specs::Table::table, syn_grammar::specs::Kept::held, syn_kinds::specs::Table::marks, syn_kinds::specs::Table::sign, syn_kinds::specs::Table::word))]
 fn auto(tree: &Tree<'_>) -> Option<token::Auto>
     requires { IsShaped tree.now optional_auto }
     ensures { words.optional views.auto result ≡ kept tree.now }
@@ -208,7 +208,7 @@ fn auto(tree: &Tree<'_>) -> Option<token::Auto>
 }
 
 // Bounds with a name, of what they begin with and what stands behind that.
-#[tactic(auto, @U@)]
+#[tactic(auto, unfolding(syn_grammar::specs::Table::table, syn_grammar::specs::Kept::held, syn_kinds::specs::Table::marks, syn_kinds::specs::Table::sign, syn_kinds::specs::Table::word))]
 fn alias_of<E: Drop, R: Reader<E>>(
     below: &R,
     start: TraitFront<E>,
@@ -242,7 +242,7 @@ fn alias_of<E: Drop, R: Reader<E>>(
 }
 
 // The items of a trait, with the attributes inside put behind those in front.
-#[tactic(auto, @U@)]
+#[tactic(auto, unfolding(syn_grammar::specs::Table::table, syn_grammar::specs::Kept::held, syn_kinds::specs::Table::marks, syn_kinds::specs::Table::sign, syn_kinds::specs::Table::word))]
 fn trait_content<E: Drop, R: Maker<E>>(
     below: &R,
     tree: &Tree<'_>,
@@ -264,7 +264,7 @@ fn trait_content<E: Drop, R: Maker<E>>(
 }
 
 // A trait, of what it begins with and what stands behind that.
-#[tactic(auto, @U@)]
+#[tactic(auto, unfolding(syn_grammar::specs::Table::table, syn_grammar::specs::Kept::held, syn_kinds::specs::Table::marks, syn_kinds::specs::Table::sign, syn_kinds::specs::Table::word))]
 fn trait_of<E: Drop, R: Maker<E>>(
     below: &R,
     start: TraitFront<E>,
@@ -312,7 +312,7 @@ fn trait_of<E: Drop, R: Maker<E>>(
 /// # Errors
 ///
 /// Where there is no memory for it.
-#[tactic(auto, using(crate::proofs::TraitForms::traits), @U@)]
+#[tactic(auto, using(crate::proofs::TraitForms::traits), unfolding(syn_grammar::specs::Table::table, syn_grammar::specs::Kept::held, syn_kinds::specs::Table::marks, syn_kinds::specs::Table::sign, syn_kinds::specs::Table::word))]
 pub fn item_traits<E: Drop, R: Maker<E>>(
     below: &R,
     front: Front<E>,

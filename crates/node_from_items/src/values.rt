@@ -40,7 +40,7 @@ use syn_lists::Punctuated;
 /// # Errors
 ///
 /// Where there is no memory for it.
-#[tactic(auto, @U@)]
+#[tactic(auto, unfolding(syn_grammar::specs::Table::table, syn_grammar::specs::Kept::held, syn_kinds::specs::Table::marks, syn_kinds::specs::Table::sign, syn_kinds::specs::Table::word))]
 pub fn optional_value<E: Drop, R: Reader<E>>(
     below: &R,
     tree: &Tree<'_>,
@@ -59,6 +59,21 @@ pub fn optional_value<E: Drop, R: Reader<E>>(
         }
         None => Ok(None),
     }
+}
+
+/// The type of a constant or a static.
+///
+/// # Errors
+///
+/// Where there is no memory for it.
+#[tactic(auto, unfolding(syn_grammar::specs::Table::table, syn_grammar::specs::Kept::held, syn_kinds::specs::Table::marks, syn_kinds::specs::Table::sign, syn_kinds::specs::Table::word))]
+pub fn own_type<E: Drop, R: Reader<E>>(below: &R, tree: &Tree<'_>) -> Result<Type<E>, AllocError>
+    requires ready { R.ready below.now }
+    requires shaped { IsShaped tree.now (g.called n.the_type (g.ref (k.AType k.WithPlus))) }
+    requires fewer { node_count tree.now ≤ R.bound below.now }
+    ensures { IfOk result (λ x. n.the_type ∶ type_view R.view x ≡ kept tree.now) }
+{
+    type_(below, Plus::WithPlus, take::called(tree))
 }
 
 /// No parameters, and no conditions.
@@ -93,7 +108,7 @@ pub struct ConstParts<E> {
 /// # Errors
 ///
 /// Where there is no memory for them.
-#[tactic(auto, using(crate::proofs::ConstForms::consts), @U@)]
+#[tactic(auto, using(crate::proofs::ConstForms::consts), unfolding(syn_grammar::specs::Table::table, syn_grammar::specs::Kept::held, syn_kinds::specs::Table::marks, syn_kinds::specs::Table::sign, syn_kinds::specs::Table::word))]
 pub fn const_parts<E: Drop, R: Reader<E>>(
     below: &R,
     tree: &Tree<'_>,
@@ -108,7 +123,7 @@ pub fn const_parts<E: Drop, R: Reader<E>>(
     let inner = take::node(Kind::AConst, tree);
     let (const_token, named, _, colon_token, ty, default, _, semi_token) = take::eight(inner);
     let ident = name_or_underscore(named)?;
-    let ty = type_(below, Plus::WithPlus, take::called(ty))?;
+    let ty = own_type(below, ty)?;
     let default = optional_value(below, default)?;
     Ok(ConstParts {
         const_token: take::keyword(const_token),
@@ -184,7 +199,7 @@ pub struct StaticParts<E> {
 }
 
 // Whether a static may be written.
-#[tactic(auto, @U@)]
+#[tactic(auto, unfolding(syn_grammar::specs::Table::table, syn_grammar::specs::Kept::held, syn_kinds::specs::Table::marks, syn_kinds::specs::Table::sign, syn_kinds::specs::Table::word))]
 fn static_mutability(tree: &Tree<'_>) -> StaticMutability
     requires { IsShaped tree.now optional_mut }
     ensures { views.static_mutability result ≡ kept tree.now }
@@ -196,7 +211,7 @@ fn static_mutability(tree: &Tree<'_>) -> StaticMutability
 }
 
 // The type behind a `:`, where it stands, with that.
-#[tactic(auto, @U@)]
+#[tactic(auto, unfolding(syn_grammar::specs::Table::table, syn_grammar::specs::Kept::held, syn_kinds::specs::Table::marks, syn_kinds::specs::Table::sign, syn_kinds::specs::Table::word))]
 fn given_type<E: Drop, R: Reader<E>>(
     below: &R,
     tree: &Tree<'_>,
@@ -210,7 +225,7 @@ fn given_type<E: Drop, R: Reader<E>>(
     match take::optional(tree) {
         Some(behind) => {
             let (colon_token, ty) = take::pair(behind);
-            let ty = type_(below, Plus::WithPlus, take::called(ty))?;
+            let ty = own_type(below, ty)?;
             Ok((take::sign(colon_token), ty))
         }
         None => unreachable!(),
@@ -222,7 +237,7 @@ fn given_type<E: Drop, R: Reader<E>>(
 /// # Errors
 ///
 /// Where there is no memory for them.
-#[tactic(auto, using(crate::proofs::StaticForms::statics), @U@)]
+#[tactic(auto, using(crate::proofs::StaticForms::statics), unfolding(syn_grammar::specs::Table::table, syn_grammar::specs::Kept::held, syn_kinds::specs::Table::marks, syn_kinds::specs::Table::sign, syn_kinds::specs::Table::word))]
 pub fn static_parts<E: Drop, R: Reader<E>>(
     below: &R,
     tree: &Tree<'_>,
