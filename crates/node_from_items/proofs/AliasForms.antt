@@ -1,13 +1,13 @@
 -- Types with another name: their conditions, their bounds and what they are defined as.
-use Rattle.std.specs.Prelude.{◌≡◌, Bool, true, false, Option, Some, None, refl}
-use Rattle.std.proofs.Common.{◌∙◌, ap, subst, sym}
+use Rattle.std.specs.Prelude.{◌≡◌, true, false, Option, Some, None, refl}
+use Rattle.std.proofs.Common.{◌∙◌, ap, sym}
 use Rattle.std.proofs.lemmas.Bool.{false≢true}
 use Rattle.syn_grammar.specs.Gram.{called, ref}
 use Rattle.syn_grammar.specs.Items as items
 use Rattle.syn_grammar.specs.Kept.{held, kept}
 use Rattle.syn_grammar.specs.Kind as k
-use Rattle.syn_grammar.specs.Name.{Part, same_part, the_bounds, the_generics, the_name, the_type, the_value, the_where}
-use Rattle.syn_grammar.specs.Part.{found, is_some, or_else, or_nil, the}
+use Rattle.syn_grammar.specs.Name.{same_part, the_bounds, the_generics, the_name, the_type, the_value, the_where}
+use Rattle.syn_grammar.specs.Part.{found, is_some, or_else, or_nil}
 use Rattle.syn_grammar.specs.Table.{table}
 use Rattle.syn_grammar.specs.Tree as t
 use Rattle.syn_grammar.specs.Tree.{Tree}

@@ -1,13 +1,11 @@
 -- Impls that are kept: without const, and of a trait that is a path.
-use Rattle.std.specs.Prelude.{◌≡◌, ◌&&◌, ◌||◌, Bool, true, false, List, None, Option, Some, not, refl}
+use Rattle.std.specs.Prelude.{◌≡◌, ◌&&◌, ◌||◌, Bool, true, false, Some, not, refl}
 use Rattle.std.proofs.Common.{◌∙◌, ap, sym}
 use Rattle.std.proofs.lemmas.Bool.{false≢true}
-use Rattle.proc_macro2.specs.Token.{Token}
-use Rattle.syn_grammar.specs.Gram.{Gram, alt, called, nothing}
 use Rattle.syn_grammar.specs.Items.{impl_form}
 use Rattle.syn_grammar.specs.Kept as keeps
 use Rattle.syn_grammar.specs.Kept.{kept}
-use Rattle.syn_grammar.specs.Name.{Part, same_part, the_const, the_default, the_first, the_generics, the_polarity}
+use Rattle.syn_grammar.specs.Name.{same_part, the_const, the_default, the_first, the_generics, the_polarity}
 use Rattle.syn_grammar.specs.Name.{the_safety, the_self}
 use Rattle.syn_grammar.specs.Part.{found, has, is_some, or_else, or_nil, the}
 use Rattle.syn_grammar.specs.Tree as t

@@ -1,5 +1,5 @@
 -- Statics that have a type, and their values.
-use Rattle.std.specs.Prelude.{◌≡◌, true, false, Option, Some, None, refl}
+use Rattle.std.specs.Prelude.{◌≡◌, true, false, Option, None, refl}
 use Rattle.std.proofs.Common.{◌∙◌, ap, sym}
 use Rattle.syn_grammar.specs.Items.{static}
 use Rattle.syn_grammar.specs.Kept as keeps

@@ -2,22 +2,23 @@
 use Rattle.std.specs.Prelude.{◌≡◌, ◌&&◌, ◌||◌, ℕ, zero, suc, Bool, None, Some, true, false, not, refl}
 use Rattle.std.proofs.Common.{◌∙◌, ap, sym}
 use Rattle.std.proofs.lemmas.Bool.{false≢true}
-use Rattle.syn_grammar.specs.Gram.{Gram, Keep, Verdict, called, nothing, ref}
+use Rattle.syn_grammar.specs.Gram.{AsRaw, Keep, Verdict, called, ref}
 use Rattle.syn_grammar.specs.Kept.{held, kept}
 use Rattle.syn_grammar.specs.Kind as k
-use Rattle.syn_grammar.specs.Name.{Part, same_part, the_body, the_default, the_item, the_pub, the_type, the_value, the_visibility}
+use Rattle.syn_grammar.specs.Name.{Part, same_part, the_body, the_const, the_default, the_item, the_path, the_pub}
+use Rattle.syn_grammar.specs.Name.{the_type, the_value, the_visibility}
 use Rattle.syn_grammar.specs.Part.{choice, found, has, is_some, or_else, or_nil, the}
 use Rattle.syn_grammar.specs.Table.{table}
 use Rattle.syn_grammar.specs.Tree as t
 use Rattle.syn_grammar.specs.Tree.{Tree}
-use Rattle.syn_grammar.specs.Verdicts.{const_is_raw, form_in, has_bounds, impl_is_raw, is_defined, is_public, item_verdict}
-use Rattle.syn_grammar.specs.Verdicts.{marked, raw_if, refused_if, root_inside}
+use Rattle.syn_grammar.specs.Verdicts.{const_is_raw, form_in, has_bounds, impl_is_raw, is_defined, is_public}
+use Rattle.syn_grammar.specs.Verdicts.{item_verdict, marked, raw_if, refused_if, root_inside}
 use Rattle.syn_grammar.specs.Lists.{default_there}
 use Rattle.node_shapes.specs.Shape.{IsShaped}
 use Rattle.node_take.specs.Seqs.{among}
 use Rattle.node_views.specs.Items.{private}
 use Rattle.node_words.specs.Words.{absent}
-use Rattle.node_from_items.specs.Dispatch.{foreign_parts, item_parts, member_parts}
+use Rattle.node_from_items.specs.Dispatch.{item_parts, member_parts}
 use Rattle.node_from_items.specs.Values.{inside, own}
 use Rattle.node_from_items.proofs.Found.{found_behind, found_called, found_here, found_node, found_other, inside_shaped}
 use Rattle.node_from_items.proofs.Found.{kept_called}
@@ -137,6 +138,158 @@ unmarked p a v d i sh e =
       sym (ap is_some (found_behind the_default a _ (found_node the_default a _ sh.0)
       ∙ found_behind the_default v _ (found_other the_default the_visibility v _ refl sh.1.0))) ∙ q.1,
     )
+
+-- in front of a member of a trait stands neither pub nor default
+
+trait_unmarked : (b : Bool) (f : Tree) → form_in k.InTrait b f ≡ Keep → b ≡ false
+trait_unmarked true (t.Node k.AConst x) e = cc (e)
+trait_unmarked true (t.Node (k.ItemMacro p) x) e = cc (e)
+trait_unmarked true _ e = cc (e)
+trait_unmarked false f e = refl
+
+pub trait_front : (a v d i f : Tree) (n : ℕ) (j : k.Kind)
+    → IsShaped (t.Pair a (t.Pair v (t.Pair d i))) (member_parts k.InTrait) → inside i ≡ among 4 n f
+    → IsShaped f (ref j) → item_verdict k.InTrait (t.Pair a (t.Pair v (t.Pair d i))) ≡ Keep
+    → (kept v ≡ t.Called the_visibility private) × (kept d ≡ absent)
+unfolding same_part
+trait_front a v d i f n j sh e s q =
+    let x = t.Pair a (t.Pair v (t.Pair d i)) in
+    let u = unmarked k.InTrait a v d i sh
+    (trait_unmarked (marked k.InTrait x) f (member_verdict k.InTrait a v d i f n j sh e s q)) in
+    (u.0, none_there the_default d _ _ refl sh.1.1.0 (found_in the_default d i u.1))
+
+pub trait_constant : (b : Bool) (f : Tree) → IsShaped f (ref k.AConst) → form_in k.InTrait b f ≡ Keep
+    → const_is_raw false (own f) ≡ false
+trait_constant b (t.Node k.AConst x) h e = (not_either b (const_is_raw false x) (not_raw _ e)).1
+trait_constant b (t.Node _ x) h e = cc (h.0)
+trait_constant b _ h e = absurd h
+
+-- members of an impl
+
+pub impl_function : (b : Bool) (f : Tree) → IsShaped f (ref (k.AFunction k.InImpl)) → form_in k.InImpl b f ≡ Keep
+    → has the_body (own f) ≡ true
+impl_function b (t.Node (k.AFunction p) x) h e = not_not (has the_body x) (not_raw _ e)
+impl_function b (t.Node _ x) h e = cc (h.0)
+impl_function b _ h e = absurd h
+
+pub impl_constant : (b : Bool) (f : Tree) → IsShaped f (ref k.AConst) → form_in k.InImpl b f ≡ Keep
+    → const_is_raw true (own f) ≡ false
+impl_constant b (t.Node k.AConst x) h e = not_raw _ e
+impl_constant b (t.Node _ x) h e = cc (h.0)
+impl_constant b _ h e = absurd h
+
+pub impl_alias : (b : Bool) (f : Tree) → IsShaped f (ref (k.ATypeAlias k.InImpl)) → form_in k.InImpl b f ≡ Keep
+    → (has_bounds (own f) ≡ false) × (is_defined (own f) ≡ true)
+impl_alias b (t.Node (k.ATypeAlias p) x) h e =
+    let q = not_either (has_bounds x) (not (is_defined x)) (not_raw _ e) in (q.0, not_not (is_defined x) q.1)
+impl_alias b (t.Node _ x) h e = cc (h.0)
+impl_alias b _ h e = absurd h
+
+pub impl_macro : (b : Bool) (f : Tree) → IsShaped f (ref (k.ItemMacro k.InImpl)) → form_in k.InImpl b f ≡ Keep
+    → b ≡ false
+impl_macro b (t.Node (k.ItemMacro p) x) h e = (not_refused b Keep e).0
+impl_macro b (t.Node _ x) h e = cc (h.0)
+impl_macro b _ h e = absurd h
+
+-- in an extern block
+
+pub foreign_function : (b : Bool) (f : Tree) → IsShaped f (ref (k.AFunction k.InForeign))
+    → form_in k.InForeign b f ≡ Keep → has the_body (own f) ≡ false
+foreign_function b (t.Node (k.AFunction p) x) h e = not_raw _ e
+foreign_function b (t.Node _ x) h e = cc (h.0)
+foreign_function b _ h e = absurd h
+
+pub foreign_static : (b : Bool) (f : Tree) → IsShaped f (ref k.AStatic) → form_in k.InForeign b f ≡ Keep
+    → (has the_type (own f) ≡ true) × (has the_value (own f) ≡ false)
+foreign_static b (t.Node k.AStatic x) h e =
+    let q = not_refused (not (has the_type x)) (raw_if (has the_value x)) e in
+    (not_not (has the_type x) q.0, not_raw (has the_value x) q.1)
+foreign_static b (t.Node _ x) h e = cc (h.0)
+foreign_static b _ h e = absurd h
+
+pub foreign_alias : (b : Bool) (f : Tree) → IsShaped f (ref (k.ATypeAlias k.InForeign))
+    → form_in k.InForeign b f ≡ Keep → (has_bounds (own f) ≡ false) × (is_defined (own f) ≡ false)
+foreign_alias b (t.Node (k.ATypeAlias p) x) h e = not_either (has_bounds x) (is_defined x) (not_raw _ e)
+foreign_alias b (t.Node _ x) h e = cc (h.0)
+foreign_alias b _ h e = absurd h
+
+pub foreign_macro : (b : Bool) (f : Tree) → IsShaped f (ref (k.ItemMacro k.InForeign))
+    → form_in k.InForeign b f ≡ Keep → b ≡ false
+foreign_macro b (t.Node (k.ItemMacro p) x) h e = (not_refused b Keep e).0
+foreign_macro b (t.Node _ x) h e = cc (h.0)
+foreign_macro b _ h e = absurd h
+
+-- in a file
+
+both_true : (a b : Bool) → not (a && b) ≡ false → (a ≡ true) × (b ≡ true)
+both_true true true e = (refl, refl)
+both_true true false e = absurd (false≢true (sym e))
+both_true false b e = absurd (false≢true (sym e))
+
+pub file_function : (b : Bool) (f : Tree) → IsShaped f (ref (k.AFunction k.InFile)) → form_in k.InFile b f ≡ Keep
+    → has the_body (own f) ≡ true
+file_function b (t.Node (k.AFunction p) x) h e = not_not (has the_body x) (not_raw _ e)
+file_function b (t.Node _ x) h e = cc (h.0)
+file_function b _ h e = absurd h
+
+pub file_static : (b : Bool) (f : Tree) → IsShaped f (ref k.AStatic) → form_in k.InFile b f ≡ Keep
+    → (has the_type (own f) ≡ true) × (has the_value (own f) ≡ true)
+file_static b (t.Node k.AStatic x) h e =
+    both_true (has the_type x) (has the_value x)
+    (not_raw _ (not_refused (not (has the_type x) && not (has the_value x)) _ e).1)
+file_static b (t.Node _ x) h e = cc (h.0)
+file_static b _ h e = absurd h
+
+pub file_constant : (b : Bool) (f : Tree) → IsShaped f (ref k.AConst) → form_in k.InFile b f ≡ Keep
+    → const_is_raw true (own f) ≡ false
+file_constant b (t.Node k.AConst x) h e = not_raw _ e
+file_constant b (t.Node _ x) h e = cc (h.0)
+file_constant b _ h e = absurd h
+
+pub file_alias : (b : Bool) (f : Tree) → IsShaped f (ref (k.ATypeAlias k.InFile)) → form_in k.InFile b f ≡ Keep
+    → (has_bounds (own f) ≡ false) × (is_defined (own f) ≡ true)
+file_alias b (t.Node (k.ATypeAlias p) x) h e =
+    let q = not_either (has_bounds x) (not (is_defined x)) (not_raw _ e) in (q.0, not_not (is_defined x) q.1)
+file_alias b (t.Node _ x) h e = cc (h.0)
+file_alias b _ h e = absurd h
+
+pub file_use : (b : Bool) (f : Tree) → IsShaped f (ref k.AUse) → form_in k.InFile b f ≡ Keep
+    → root_inside (the the_path (own f)) ≡ false
+file_use b (t.Node k.AUse x) h e = not_raw _ e
+file_use b (t.Node _ x) h e = cc (h.0)
+file_use b _ h e = absurd h
+
+private_impl : (b c d e : Bool) → (b && not (c && not d)) ≡ false → (c || e) ≡ false → b ≡ false
+private_impl false c d e q r = refl
+private_impl true false d e q r = absurd (false≢true (sym q))
+private_impl true true d e q r = absurd (false≢true (sym r))
+
+pub file_impl : (b : Bool) (f : Tree) → IsShaped f (ref k.AnImpl) → form_in k.InFile b f ≡ Keep
+    → (impl_is_raw (own f) ≡ false) × (b ≡ false)
+file_impl b (t.Node k.AnImpl x) h e =
+    let q = not_refused (b && not (has the_const x && not (has the_default x))) (raw_if (impl_is_raw x)) e in
+    let r = not_raw (impl_is_raw x) q.1 in
+    (r, private_impl b (has the_const x) (has the_default x) _ q.0 r)
+file_impl b (t.Node _ x) h e = cc (h.0)
+file_impl b _ h e = absurd h
+
+pub file_foreign : (b : Bool) (f : Tree) → IsShaped f (ref k.AForeignModule) → form_in k.InFile b f ≡ Keep
+    → b ≡ false
+file_foreign b (t.Node k.AForeignModule x) h e = (not_refused b Keep e).0
+file_foreign b (t.Node _ x) h e = cc (h.0)
+file_foreign b _ h e = absurd h
+
+pub file_macro : (b : Bool) (f : Tree) → IsShaped f (ref (k.ItemMacro k.InFile)) → form_in k.InFile b f ≡ Keep
+    → b ≡ false
+file_macro b (t.Node (k.ItemMacro p) x) h e = (not_refused b Keep e).0
+file_macro b (t.Node _ x) h e = cc (h.0)
+file_macro b _ h e = absurd h
+
+-- none of these is kept
+pub file_raw : (b : Bool) (f : Tree) (j : k.Kind) → ((x : Tree) → form_in k.InFile b (t.Node j x) ≡ AsRaw)
+    → IsShaped f (ref j) → form_in k.InFile b f ≡ Keep → ⊥
+file_raw b (t.Node i x) j d h e = cc (sym (d x) ∙ ap (λ l. form_in k.InFile b (t.Node l x)) (sym h.0) ∙ e)
+file_raw b _ j d h e = absurd h
 
 pub ruleset traits = (member_verdict, unmarked, not_raw)
 

@@ -40,21 +40,28 @@ foreign_form =
 abbrev pub foreign_parts : Gram
 foreign_parts = ref k.OuterAttributes ▸ the_visibility ∶ ref k.Visibility ▸ foreign_form
 
--- The number of an item's alternative is that of its kind: of a module, an extern block, an impl and a trait there are
--- several, by whether unsafe stands in front. Of an item among others it is said of what is judged.
+-- An item's kind and whether unsafe stands in front of it tell which alternative it is: of a module, an extern block,
+-- a trait and an impl there are several.
+
+-- unsafe stands in front
 abbrev pub is_unsafe : Tree → Bool
 is_unsafe (t.Pair (t.First u) x) = true
 is_unsafe x = false
 
--- behind default? const?
+-- unsafe stands in front of an impl, and no default before it
 abbrev pub is_unsafe_impl : Tree → Bool
 is_unsafe_impl (t.Pair (t.Second d) (t.Pair c x)) = is_unsafe x
 is_unsafe_impl x = false
 
--- the alternative counted so, of one of these kinds, is for what has no unsafe in front, or for what has
+-- const stands in front of an impl
+abbrev pub is_const_impl : Tree → Bool
+is_const_impl (t.Pair d (t.Pair (t.First c) x)) = true
+is_const_impl x = false
+
+-- the alternative that is counted so, and those behind it
 abbrev pub is_form_numbered : ℕ → Tree → Bool
 is_form_numbered 2 (t.First (t.Node k.AForeignModule x)) = not (is_unsafe x)
-is_form_numbered 6 (t.First (t.Node k.AnImpl x)) = false
+is_form_numbered 6 (t.First (t.Node k.AnImpl (t.First x))) = is_const_impl x
 is_form_numbered 8 (t.First (t.Node k.AForeignModule x)) = is_unsafe x
 is_form_numbered 9 (t.First (t.Node k.AModule x)) = is_unsafe x
 is_form_numbered 10 (t.First (t.Node k.AnImpl (t.First x))) = is_unsafe_impl x

@@ -16,7 +16,7 @@ ghost use Rattle.syn_grammar.specs.Gram as g;
 ghost use Rattle.syn_grammar.specs.Kept.{is_there, kept};
 ghost use Rattle.syn_grammar.specs.Kind as k;
 ghost use Rattle.syn_grammar.specs.Name as n;
-ghost use Rattle.syn_grammar.specs.Part.{has, the};
+ghost use Rattle.syn_grammar.specs.Part.{has};
 ghost use Rattle.syn_grammar.specs.Tree as t;
 ghost use Rattle.syn_grammar.specs.Tree.{Tree as GivenTree};
 ghost use Rattle.syn_grammar.specs.Verdicts.{const_is_raw, impl_is_raw, is_path_type};

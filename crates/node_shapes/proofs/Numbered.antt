@@ -1,6 +1,6 @@
 -- An item that is read is the alternative of its kind, and a where clause stands where it may.
 use Prim.Native.String.{String}
-use Rattle.std.specs.Prelude.{◌≡◌, ℕ, zero, suc, Bool, true, false, cond, not, List, [], ◌∷◌, ◌++◌, Option, Some, None, codes, refl}
+use Rattle.std.specs.Prelude.{◌≡◌, ℕ, zero, suc, Bool, true, false, cond, not, List, ◌∷◌, ◌++◌, Option, Some, None, codes, refl}
 use Rattle.std.proofs.Common.{ap, append_assoc, subst, sym, ◌∙◌}
 use Rattle.std.proofs.lemmas.Bool.{false≢true}
 use Rattle.std.proofs.lemmas.Slice.Eq.{bytes_eq-Decides}
@@ -9,7 +9,7 @@ use Rattle.syn_grammar.specs.Gram.{Gram, alt, ref, seq}
 use Rattle.syn_grammar.specs.Items as items
 use Rattle.syn_grammar.specs.Kind as k
 use Rattle.syn_grammar.specs.Lists.{item_form}
-use Rattle.syn_grammar.specs.Look.{Look, behind, first_seen, seen, sees, the_word, ◌or◌, ◌then◌, no}
+use Rattle.syn_grammar.specs.Look.{Look, behind, first_seen, maybe, no, seen, sees, the_word, ◌or◌, ◌then◌}
 use Rattle.syn_grammar.specs.Name.{Part, the_const, the_default, the_safety}
 use Rattle.syn_grammar.specs.Say.{at, keyword, marks, optional, ◌∶◌}
 use Rattle.syn_grammar.specs.Table.{table}
@@ -267,7 +267,7 @@ numbered_12 (t.Second (t.Second (t.Second (t.Second (t.Second (t.Second x)))))) 
 numbered_12 _ r d = refl
 
 numbered_6 : (x : Tree) (r : List Token) → Derives x (from 6 item_form) r → is_numbered 6 x ≡ true
-numbered_6 (t.First x) r d = in_const_impl x _ r d.1 d.0
+numbered_6 (t.First x) r d = in_const_impl x (maybe (at "unsafe") then at "impl") r d.1 d.0
 numbered_6 (t.Second (t.First x)) r d = refl
 numbered_6 (t.Second (t.Second (t.First x))) r d = in_unsafe_extern x (at "extern") r d.1.1.1 d.1.1.0
 numbered_6 (t.Second (t.Second (t.Second (t.First x)))) r d = in_unsafe_mod x (at "mod") r d.1.1.1.1 d.1.1.1.0

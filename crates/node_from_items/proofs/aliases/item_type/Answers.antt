@@ -7,7 +7,7 @@ use Rattle.syn_grammar.specs.Tree as t
 use Rattle.syn_grammar.specs.Verdicts.{has_bounds, is_defined}
 use Rattle.node_shapes.specs.Shape.{IsShaped}
 use Rattle.node_views.specs.Items.{is_there}
-use Rattle.node_from_items.specs.Aliases.{end_of, has_placed, is_placed}
+use Rattle.node_from_items.specs.Aliases.{has_placed, is_placed}
 use Rattle.node_from_items.specs.Values.{inside, own}
 use Rattle.node_from_items.proofs.AliasForms.{alias_defined, alias_placed, alias_unbounded}
 use Rattle.node_from_items.proofs.aliases.item_type.Goals as goal

@@ -1,8 +1,6 @@
-use Rattle.std.specs.Prelude.{◌≡◌, ◌&&◌, not, true}
-use Rattle.std.proofs.Common.{subst}
-use Rattle.syn_grammar.specs.Items.{are_parameters, is_receiver, is_variadic, parameters}
+use Rattle.syn_grammar.specs.Items.{are_parameters}
 use Rattle.syn_grammar.specs.Kind as k
-use Rattle.syn_grammar.specs.Part.{each_but_first, each_but_last, in_group}
+use Rattle.syn_grammar.specs.Part.{in_group}
 use Rattle.syn_grammar.specs.Say.{in_parentheses, many_to_end}
 use Rattle.syn_grammar.specs.Gram.{ref}
 use Rattle.syn_grammar.specs.Table.{table}

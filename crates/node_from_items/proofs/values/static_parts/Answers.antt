@@ -1,6 +1,5 @@
 use Rattle.std.specs.Prelude.{◌≡◌, true}
 use Rattle.std.proofs.Common.{◌∙◌, ap, subst, sym}
-use Rattle.syn_grammar.specs.Kept.{held, kept}
 use Rattle.syn_grammar.specs.Kind as k
 use Rattle.syn_grammar.specs.Name.{the_type, the_value}
 use Rattle.syn_grammar.specs.Part.{has}
