@@ -1,6 +1,6 @@
 //! Imports.
 
-ghost use Rattle.node_from_items.specs.Imports.{behind_name, use_name as name_gram, whole};
+ghost use Rattle.node_from_items.specs.Imports.{behind_name, top as top_view, use_name as name_gram, whole};
 ghost use Rattle.node_from_items.specs.Values.{own};
 ghost use Rattle.node_shapes.specs.Shape.{IsShaped};
 ghost use Rattle.node_views.specs.Generics as generics;
@@ -137,7 +137,7 @@ pub fn use_tree(alloc: Global, tree: &Tree<'_>) -> Result<UseTree, AllocError>
 
 // Several imports in braces that no path stands before. None of them begins with `::`.
 #[cycle(rooting)]
-#[tactic(auto, using(node_take::proofs::Lists::steps))]
+#[tactic(auto, using(node_take::proofs::Lists::steps, crate::proofs::ImportLists::roots))]
 fn tops(alloc: Global, tree: &Tree<'_>) -> Result<Punctuated<UseTree, token::Comma>, AllocError>
     requires shaped { ((e : List Token → Bool) × IsShaped tree.now (g.many e 44 (g.ref k.UseTop))) }
     requires rootless { has_root tree.now ≡ false }
@@ -161,7 +161,7 @@ fn tops(alloc: Global, tree: &Tree<'_>) -> Result<Punctuated<UseTree, token::Com
 fn top(alloc: Global, tree: &Tree<'_>) -> Result<UseTree, AllocError>
     requires shaped { IsShaped tree.now (g.ref k.UseTop) }
     requires rootless { has_root tree.now ≡ false }
-    ensures { IfOk result (λ x. t.Node k.UseTop (t.Second (views.rooted (views.use_tree x))) ≡ kept tree.now) }
+    ensures { IfOk result (λ x. top_view x ≡ kept tree.now) }
 {
     match take::alternative(1, take::node(Kind::UseTop, tree)) {
         (0, _) => unreachable!(),

@@ -210,8 +210,9 @@ pub fn params<E: Drop, R: Reader<E>>(
     let Listed { before, last } = take::elements(',', tree);
     let mut list = Punctuated::new(below.alloc());
     for element in before {
+        let made = param(below, &element.tree)?;
         let comma = Punctuation::new([element.spacing.span()]);
-        match param(below, &element.tree)? {
+        match made {
             Param::Arg(arg) => {
                 list.push_value(arg)?;
                 list.push_punct(comma)?;
