@@ -23,7 +23,7 @@ use Rattle.node_views.specs.Items.{is_there, no_bounds, type_end}
 use Rattle.node_views.specs.Members.{type_value}
 use Rattle.node_words.specs.Words as words
 use Rattle.node_words.specs.Words.{absent}
-use Rattle.node_from_items.specs.Aliases.{either_end, end_of, has_placed, is_placed}
+use Rattle.node_from_items.specs.Aliases.{either_end, end_of, has_placed, is_placed, plain_end, plain_end_of}
 use Rattle.node_from_items.proofs.Found.{found_behind, found_called, found_here, found_mark, found_other, found_word}
 use Rattle.node_from_items.proofs.Found.{inside_shaped, kept_called}
 use Rattle.node_from_items.specs.Values.{inside}
@@ -151,6 +151,38 @@ pub alias_defined : {E : Type 0} (f : E → Tree) (p : WhereClausePlacement) (d 
 alias_defined f p d o w i g b v s sh e q =
     either_there f p d o (inside v) (inside_shaped the_value v _ sh.1.1.1.1.0) q
     ∙ ap (λ r. is_some (found the_type (or_nil r))) (sym (the_value_of k.InFile w i g b v s sh)) ∙ e
+
+-- the same of an extern block's type that is not defined
+none_there : {A : Type 0} (d : Option A) → is_there d ≡ false → d ≡ None
+none_there None e = refl
+none_there (Some x) e = absurd (false≢true (sym e))
+
+pub alias_undefined : {E : Type 0} (f : E → Tree) (p : WhereClausePlacement) (d : Option (Punctuation 13 1 × Type' E))
+    (o : Option (WhereClause E)) (w i g b v s : Tree)
+    → IsShaped (t.Pair w (t.Pair i (t.Pair g (t.Pair b (t.Pair v s))))) (items.type_alias k.InForeign)
+    → is_defined (t.Pair w (t.Pair i (t.Pair g (t.Pair b (t.Pair v s))))) ≡ false
+    → end_of f p d o ≡ kept (inside v) → d ≡ None
+alias_undefined f p d o w i g b v s sh e q =
+    none_there d (either_there f p d o (inside v) (inside_shaped the_value v _ sh.1.1.1.1.0) q
+    ∙ ap (λ r. is_some (found the_type (or_nil r))) (sym (the_value_of k.InForeign w i g b v s sh)) ∙ e)
+
+-- and of an impl's type
+plain_there : {E : Type 0} (f : E → Tree) (d : Option (Punctuation 13 1 × Type' E)) (o : Option (WhereClause E))
+    (x : Tree) → IsShaped x plain_end → plain_end_of f d o ≡ kept x → is_there d ≡ is_some (found the_type x)
+unfolding same_part
+plain_there f d o (t.Pair y w) h e =
+    defined_there f d y h.0 (cc) ∙ sym (else_none (found the_type y))
+    ∙ sym (ap (λ q. is_some (or_else (found the_type y) q)) (found_other the_type the_where w _ refl h.1))
+plain_there f d o _ h e = absurd h
+
+pub alias_plainly_defined : {E : Type 0} (f : E → Tree) (d : Option (Punctuation 13 1 × Type' E))
+    (o : Option (WhereClause E)) (w i g b v s : Tree)
+    → IsShaped (t.Pair w (t.Pair i (t.Pair g (t.Pair b (t.Pair v s))))) (items.type_alias k.InImpl)
+    → is_defined (t.Pair w (t.Pair i (t.Pair g (t.Pair b (t.Pair v s))))) ≡ true
+    → plain_end_of f d o ≡ kept (inside v) → is_there d ≡ true
+alias_plainly_defined f d o w i g b v s sh e q =
+    plain_there f d o (inside v) (inside_shaped the_value v _ sh.1.1.1.1.0) q
+    ∙ ap (λ r. is_some (found the_type (or_nil r))) (sym (the_value_of k.InImpl w i g b v s sh)) ∙ e
 
 -- where its conditions stand
 pub alias_placed : (j : k.Kind) (w i g b v s : Tree) (a : _)
