@@ -128,7 +128,8 @@ either_there : {E : Type 0} (f : E → Tree) (p : WhereClausePlacement) (d : Opt
     → IsShaped x either_end → end_of f p d o ≡ kept x → is_there d ≡ is_some (found the_type x)
 unfolding same_part
 either_there f placements.Early d (Some c) (t.First (t.Pair w y)) h e =
-    defined_there f d y h.1 (cc) ∙ sym (ap is_some (found_behind the_type w y (found_other the_type the_where w _ refl h.0)))
+    defined_there f d y h.1 (cc)
+    ∙ sym (ap is_some (found_behind the_type w y (found_other the_type the_where w _ refl h.0)))
 either_there f placements.Early d None (t.Second (t.Pair y w)) h e =
     defined_there f d y h.0 (cc) ∙ sym (else_none (found the_type y))
     ∙ sym (ap (λ q. is_some (or_else (found the_type y) q)) (found_other the_type the_where w _ refl h.1))

@@ -1,5 +1,6 @@
 -- Parameters one behind the other, of which the last may take any number of arguments more.
-use Rattle.std.specs.Prelude.{◌≡◌, ◌&&◌, ◌<◌, ◌≤◌, ◌+◌, ℕ, zero, suc, Bool, true, false, List, [], ◌∷◌, drop, length, not, refl}
+use Rattle.std.specs.Prelude.{◌≡◌, ◌&&◌, ◌<◌, ◌≤◌, ◌+◌, ℕ, zero, suc, Bool, true, false, List, [], ◌∷◌, drop, length}
+use Rattle.std.specs.Prelude.{not, refl}
 use Rattle.std.proofs.Common.{◌∙◌, ap, arith, get_or, subst, sym}
 use Rattle.std.proofs.lemmas.Bool.{false≢true}
 use Rattle.std.proofs.lemmas.List.{drop_more}
@@ -73,8 +74,8 @@ last_of p es i x o l e h d =
 
 -- the last one, with a comma behind it, and without
 
-pub dots_followed : {A : Type 0} (f : A → Tree) (p : Tree → Bool) (vs : List A) (es : List Element) (i : ℕ) (x : Element)
-    (o v k : Tree)
+pub dots_followed : {A : Type 0} (f : A → Tree) (p : Tree → Bool) (vs : List A) (es : List Element) (i : ℕ)
+    (x : Element) (o v k : Tree)
     → i < length es → x ≡ get_or es i x → each_but_last p (elements 44 (drop i es) o) ≡ true → p x.tree ≡ false
     → v ≡ kept x.tree → all_listed 44 f vs (kept (elements 44 (drop i es) o)) ≡ k
     → all_listed 44 f vs (t.More v 44 Alone t.End) ≡ k

@@ -129,7 +129,8 @@ the_visibility_of a v z h s =
 pub unmarked : (p : k.Place) (a v d i : Tree) → IsShaped (t.Pair a (t.Pair v (t.Pair d i))) (member_parts p)
     → (is_public (the the_visibility (t.Pair a (t.Pair v (t.Pair d i))))
     || has the_default (t.Pair a (t.Pair v (t.Pair d i)))) ≡ false
-    → (kept v ≡ t.Called the_visibility private) × (is_some (or_else (found the_default d) (found the_default i)) ≡ false)
+    → (kept v ≡ t.Called the_visibility private)
+    × (is_some (or_else (found the_default d) (found the_default i)) ≡ false)
 unfolding same_part
 unmarked p a v d i sh e =
     let x = t.Pair a (t.Pair v (t.Pair d i)) in

@@ -2,7 +2,8 @@
 use Rattle.syn_grammar.specs.Gram.{Gram, raw}
 use Rattle.syn_grammar.specs.Items as items
 use Rattle.syn_grammar.specs.Kind as k
-use Rattle.syn_grammar.specs.Say.{◌▸◌, when◌read◌else◌, brace, in_braces, in_brackets, in_parentheses, parenthesis, sign}
+use Rattle.syn_grammar.specs.Say.{◌▸◌, when◌read◌else◌, brace, in_braces, in_brackets, in_parentheses, parenthesis}
+use Rattle.syn_grammar.specs.Say.{sign}
 
 -- {tokens}, or another group of tokens and ;
 abbrev pub macro_end : Gram

@@ -1,6 +1,7 @@
 //! Impls and what stands in them.
 
-ghost use Rattle.node_from_items.specs.Members.{head_type, impl_braces, optional_default, optional_for, optional_polarity};
+ghost use Rattle.node_from_items.specs.Members.{head_type, impl_braces, optional_default, optional_for};
+ghost use Rattle.node_from_items.specs.Members.{optional_polarity};
 ghost use Rattle.node_from_items.specs.Values.{inside as inside_of, own};
 ghost use Rattle.node_shapes.specs.Shape.{IsShaped};
 ghost use Rattle.node_views.specs.Generics as generic_views;

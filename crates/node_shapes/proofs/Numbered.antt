@@ -1,6 +1,7 @@
 -- An item that is read is the alternative of its kind, and a where clause stands where it may.
 use Prim.Native.String.{String}
-use Rattle.std.specs.Prelude.{◌≡◌, ℕ, zero, suc, Bool, true, false, cond, not, List, ◌∷◌, ◌++◌, Option, Some, None, codes, refl}
+use Rattle.std.specs.Prelude.{◌≡◌, ℕ, zero, suc, Bool, true, false, cond, not, List, ◌∷◌, ◌++◌, Option, Some, None}
+use Rattle.std.specs.Prelude.{codes, refl}
 use Rattle.std.proofs.Common.{ap, append_assoc, subst, sym, ◌∙◌}
 use Rattle.std.proofs.lemmas.Bool.{false≢true}
 use Rattle.std.proofs.lemmas.Slice.Eq.{bytes_eq-Decides}
@@ -122,7 +123,8 @@ const_seen : (x : Tree) (l : Look) (r : List Token) → Derives x items.impl_for
     → sees (at "const" then l) (flat x ++ r) ≡ true → is_const_impl x ≡ true
 const_seen (t.Pair d (t.Pair (t.First c) x)) l r h q = refl
 const_seen (t.Pair (t.First d) (t.Pair (t.Second c) x)) l r h q =
-    absurd (unseen_word the_default "const" "default" d (t.Pair (t.Second c) x) r refl h.0 (first_of (at "const") l _ q))
+    absurd (unseen_word the_default "const" "default" d (t.Pair (t.Second c) x) r refl h.0
+    (first_of (at "const") l _ q))
 const_seen (t.Pair (t.Second t.Nil) (t.Pair (t.Second c) x)) l r h q =
     absurd (seen_word the_const "const" c x r h.1.0 (first_of (at "const") l _ q))
 const_seen (t.Pair (t.Second _) (t.Pair (t.Second c) x)) l r h q = absurd h.0.1

@@ -15,4 +15,5 @@ kept-requires g c =
 pub params-requires-clause-last : goal.params-requires-clause-last
 unfolding table
 params-requires-clause-last g c =
-    all_but_last c.node.result.now c.kept.result.now c.group.result.1.now c.node.ensures.shaped c.kept.ensures c.group.ensures
+    all_but_last c.node.result.now c.kept.result.now c.group.result.1.now c.node.ensures.shaped c.kept.ensures
+    c.group.ensures
