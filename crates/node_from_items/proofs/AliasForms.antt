@@ -76,10 +76,10 @@ the_bounds_of : (p : k.Place) (w i g b v s : Tree)
     → found the_bounds (t.Pair w (t.Pair i (t.Pair g (t.Pair b (t.Pair v s))))) ≡ Some (inside b)
 unfolding same_part
 the_bounds_of p w i g b v s sh =
-    found_behind the_bounds w _ (found_word the_bounds w _ sh.0)
-    ∙ found_behind the_bounds i _ (found_other the_bounds the_name i _ refl sh.1.0)
-    ∙ found_behind the_bounds g _ (found_other the_bounds the_generics g _ refl sh.1.1.0)
-    ∙ found_here the_bounds b _ (inside b) (found_called the_bounds b _ refl sh.1.1.1.0)
+    found_behind the_bounds w (t.Pair i (t.Pair g (t.Pair b (t.Pair v s)))) (found_word the_bounds w _ sh.0)
+    ∙ found_behind the_bounds i (t.Pair g (t.Pair b (t.Pair v s))) (found_other the_bounds the_name i _ refl sh.1.0)
+    ∙ found_behind the_bounds g (t.Pair b (t.Pair v s)) (found_other the_bounds the_generics g _ refl sh.1.1.0)
+    ∙ found_here the_bounds b (t.Pair v s) (inside b) (found_called the_bounds b _ refl sh.1.1.1.0)
 
 pub alias_unbounded : (p : k.Place) (w i g b v s : Tree)
     → IsShaped (t.Pair w (t.Pair i (t.Pair g (t.Pair b (t.Pair v s))))) (items.type_alias p)
@@ -97,10 +97,10 @@ the_value_of : (p : k.Place) (w i g b v s : Tree)
     → found the_value (t.Pair w (t.Pair i (t.Pair g (t.Pair b (t.Pair v s))))) ≡ Some (inside v)
 unfolding same_part
 the_value_of p w i g b v s sh =
-    found_behind the_value w _ (found_word the_value w _ sh.0)
-    ∙ found_behind the_value i _ (found_other the_value the_name i _ refl sh.1.0)
-    ∙ found_behind the_value g _ (found_other the_value the_generics g _ refl sh.1.1.0)
-    ∙ found_behind the_value b _ (found_other the_value the_bounds b _ refl sh.1.1.1.0)
+    found_behind the_value w (t.Pair i (t.Pair g (t.Pair b (t.Pair v s)))) (found_word the_value w _ sh.0)
+    ∙ found_behind the_value i (t.Pair g (t.Pair b (t.Pair v s))) (found_other the_value the_name i _ refl sh.1.0)
+    ∙ found_behind the_value g (t.Pair b (t.Pair v s)) (found_other the_value the_generics g _ refl sh.1.1.0)
+    ∙ found_behind the_value b (t.Pair v s) (found_other the_value the_bounds b _ refl sh.1.1.1.0)
     ∙ found_here the_value v s (inside v) (found_called the_value v _ refl sh.1.1.1.1.0)
 
 -- a definition, as a part

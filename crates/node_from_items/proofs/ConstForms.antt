@@ -64,9 +64,12 @@ the_generics_of : (w i g c u o h s : Tree)
     ≡ Some (inside g)
 unfolding same_part
 the_generics_of w i g c u o h s sh =
-    found_behind the_generics w _ (found_word the_generics w _ sh.0)
-    ∙ found_behind the_generics i _ (found_other the_generics the_name i _ refl sh.1.0)
-    ∙ found_here the_generics g _ (inside g) (found_called the_generics g _ refl sh.1.1.0)
+    found_behind the_generics w (t.Pair i (t.Pair g (t.Pair c (t.Pair u (t.Pair o (t.Pair h s))))))
+    (found_word the_generics w _ sh.0)
+    ∙ found_behind the_generics i (t.Pair g (t.Pair c (t.Pair u (t.Pair o (t.Pair h s)))))
+    (found_other the_generics the_name i _ refl sh.1.0)
+    ∙ found_here the_generics g (t.Pair c (t.Pair u (t.Pair o (t.Pair h s)))) (inside g)
+    (found_called the_generics g _ refl sh.1.1.0)
 
 the_where_of : (w i g c u o h s : Tree)
     → IsShaped (t.Pair w (t.Pair i (t.Pair g (t.Pair c (t.Pair u (t.Pair o (t.Pair h s))))))) constant
@@ -74,12 +77,15 @@ the_where_of : (w i g c u o h s : Tree)
     ≡ Some (inside h)
 unfolding same_part
 the_where_of w i g c u o h s sh =
-    found_behind the_where w _ (found_word the_where w _ sh.0)
-    ∙ found_behind the_where i _ (found_other the_where the_name i _ refl sh.1.0)
-    ∙ found_behind the_where g _ (found_other the_where the_generics g _ refl sh.1.1.0)
-    ∙ found_behind the_where c _ (found_mark the_where c _ _ sh.1.1.1.0)
-    ∙ found_behind the_where u _ (found_other the_where the_type u _ refl sh.1.1.1.1.0)
-    ∙ found_behind the_where o _ (value_other the_where o refl sh.1.1.1.1.1.0)
+    found_behind the_where w (t.Pair i (t.Pair g (t.Pair c (t.Pair u (t.Pair o (t.Pair h s))))))
+    (found_word the_where w _ sh.0)
+    ∙ found_behind the_where i (t.Pair g (t.Pair c (t.Pair u (t.Pair o (t.Pair h s)))))
+    (found_other the_where the_name i _ refl sh.1.0)
+    ∙ found_behind the_where g (t.Pair c (t.Pair u (t.Pair o (t.Pair h s))))
+    (found_other the_where the_generics g _ refl sh.1.1.0)
+    ∙ found_behind the_where c (t.Pair u (t.Pair o (t.Pair h s))) (found_mark the_where c _ _ sh.1.1.1.0)
+    ∙ found_behind the_where u (t.Pair o (t.Pair h s)) (found_other the_where the_type u _ refl sh.1.1.1.1.0)
+    ∙ found_behind the_where o (t.Pair h s) (value_other the_where o refl sh.1.1.1.1.1.0)
     ∙ found_here the_where h s (inside h) (found_called the_where h _ refl sh.1.1.1.1.1.1.0)
 
 the_value_of : (w i g c u o h s : Tree)
@@ -88,11 +94,14 @@ the_value_of : (w i g c u o h s : Tree)
     ≡ or_else (found the_value o) None
 unfolding same_part
 the_value_of w i g c u o h s sh =
-    found_behind the_value w _ (found_word the_value w _ sh.0)
-    ∙ found_behind the_value i _ (found_other the_value the_name i _ refl sh.1.0)
-    ∙ found_behind the_value g _ (found_other the_value the_generics g _ refl sh.1.1.0)
-    ∙ found_behind the_value c _ (found_mark the_value c _ _ sh.1.1.1.0)
-    ∙ found_behind the_value u _ (found_other the_value the_type u _ refl sh.1.1.1.1.0)
+    found_behind the_value w (t.Pair i (t.Pair g (t.Pair c (t.Pair u (t.Pair o (t.Pair h s))))))
+    (found_word the_value w _ sh.0)
+    ∙ found_behind the_value i (t.Pair g (t.Pair c (t.Pair u (t.Pair o (t.Pair h s)))))
+    (found_other the_value the_name i _ refl sh.1.0)
+    ∙ found_behind the_value g (t.Pair c (t.Pair u (t.Pair o (t.Pair h s))))
+    (found_other the_value the_generics g _ refl sh.1.1.0)
+    ∙ found_behind the_value c (t.Pair u (t.Pair o (t.Pair h s))) (found_mark the_value c _ _ sh.1.1.1.0)
+    ∙ found_behind the_value u (t.Pair o (t.Pair h s)) (found_other the_value the_type u _ refl sh.1.1.1.1.0)
     ∙ ap (or_else (found the_value o)) (found_behind the_value h s
     (found_other the_value the_where h _ refl sh.1.1.1.1.1.1.0) ∙ found_mark the_value s _ _ sh.1.1.1.1.1.1.1)
 

@@ -39,8 +39,8 @@ unfolding same_part
 no_const d c z sh e =
     let x = t.Pair d (t.Pair c z) in
     none_there the_const c _ _ refl sh.1.0 (found_in the_const c z
-    (sym (ap is_some (found_behind the_const d _ (maybe_other the_const the_default d _ _ refl sh.0)))
-    ∙ left_false (has the_const x) _ e))
+    (sym (ap is_some (found_behind the_const d (t.Pair c z) (maybe_other the_const the_default d _ _ refl sh.0)))
+    ∙ left_false (has the_const x) (has the_self x && not (is_path_type (the the_first x))) e))
 
 -- the trait is a path where a type stands behind for
 
@@ -62,23 +62,31 @@ unfolding same_part
 trait_path d c u w g m f r z sh e k =
     let x = t.Pair d (t.Pair c (t.Pair u (t.Pair w (t.Pair g (t.Pair m (t.Pair f (t.Pair r z))))))) in
     let p : found the_first x ≡ Some (inside f) =
-    found_behind the_first d _ (maybe_other the_first the_default d _ _ refl sh.0)
-    ∙ found_behind the_first c _ (maybe_other the_first the_const c _ _ refl sh.1.0)
-    ∙ found_behind the_first u _ (maybe_other the_first the_safety u _ _ refl sh.1.1.0)
-    ∙ found_behind the_first w _ (found_word the_first w _ sh.1.1.1.0)
-    ∙ found_behind the_first g _ (found_other the_first the_generics g _ refl sh.1.1.1.1.0)
-    ∙ found_behind the_first m _ (maybe_other the_first the_polarity m _ _ refl sh.1.1.1.1.1.0)
-    ∙ found_here the_first f _ (inside f) (found_called the_first f _ refl sh.1.1.1.1.1.1.0) in
+    found_behind the_first d (t.Pair c (t.Pair u (t.Pair w (t.Pair g (t.Pair m (t.Pair f (t.Pair r z)))))))
+    (maybe_other the_first the_default d _ _ refl sh.0)
+    ∙ found_behind the_first c (t.Pair u (t.Pair w (t.Pair g (t.Pair m (t.Pair f (t.Pair r z))))))
+    (maybe_other the_first the_const c _ _ refl sh.1.0)
+    ∙ found_behind the_first u (t.Pair w (t.Pair g (t.Pair m (t.Pair f (t.Pair r z)))))
+    (maybe_other the_first the_safety u _ _ refl sh.1.1.0)
+    ∙ found_behind the_first w (t.Pair g (t.Pair m (t.Pair f (t.Pair r z)))) (found_word the_first w _ sh.1.1.1.0)
+    ∙ found_behind the_first g (t.Pair m (t.Pair f (t.Pair r z)))
+    (found_other the_first the_generics g _ refl sh.1.1.1.1.0)
+    ∙ found_behind the_first m (t.Pair f (t.Pair r z)) (maybe_other the_first the_polarity m _ _ refl sh.1.1.1.1.1.0)
+    ∙ found_here the_first f (t.Pair r z) (inside f) (found_called the_first f _ refl sh.1.1.1.1.1.1.0) in
     let q : found the_self x ≡ found the_self (t.Pair r z) =
-    found_behind the_self d _ (maybe_other the_self the_default d _ _ refl sh.0)
-    ∙ found_behind the_self c _ (maybe_other the_self the_const c _ _ refl sh.1.0)
-    ∙ found_behind the_self u _ (maybe_other the_self the_safety u _ _ refl sh.1.1.0)
-    ∙ found_behind the_self w _ (found_word the_self w _ sh.1.1.1.0)
-    ∙ found_behind the_self g _ (found_other the_self the_generics g _ refl sh.1.1.1.1.0)
-    ∙ found_behind the_self m _ (maybe_other the_self the_polarity m _ _ refl sh.1.1.1.1.1.0)
-    ∙ found_behind the_self f _ (found_other the_self the_first f _ refl sh.1.1.1.1.1.1.0) in
+    found_behind the_self d (t.Pair c (t.Pair u (t.Pair w (t.Pair g (t.Pair m (t.Pair f (t.Pair r z)))))))
+    (maybe_other the_self the_default d _ _ refl sh.0)
+    ∙ found_behind the_self c (t.Pair u (t.Pair w (t.Pair g (t.Pair m (t.Pair f (t.Pair r z))))))
+    (maybe_other the_self the_const c _ _ refl sh.1.0)
+    ∙ found_behind the_self u (t.Pair w (t.Pair g (t.Pair m (t.Pair f (t.Pair r z)))))
+    (maybe_other the_self the_safety u _ _ refl sh.1.1.0)
+    ∙ found_behind the_self w (t.Pair g (t.Pair m (t.Pair f (t.Pair r z)))) (found_word the_self w _ sh.1.1.1.0)
+    ∙ found_behind the_self g (t.Pair m (t.Pair f (t.Pair r z)))
+    (found_other the_self the_generics g _ refl sh.1.1.1.1.0)
+    ∙ found_behind the_self m (t.Pair f (t.Pair r z)) (maybe_other the_self the_polarity m _ _ refl sh.1.1.1.1.1.0)
+    ∙ found_behind the_self f (t.Pair r z) (found_other the_self the_first f _ refl sh.1.1.1.1.1.1.0) in
     sym (ap (λ o. is_path_type (or_nil o)) p)
-    ∙ is_so (has the_self x) (is_path_type (the the_first x)) (right_false (has the_const x) _ e)
+    ∙ is_so (has the_self x) (is_path_type (the the_first x)) (right_false (has the_const x) (has the_self x && not (is_path_type (the the_first x))) e)
     (ap is_some q ∙ for_found r z sh.1.1.1.1.1.1.1.0 k)
 
 pub ruleset impls = (no_const, trait_path)

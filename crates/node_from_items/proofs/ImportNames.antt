@@ -70,7 +70,7 @@ pub use_path : (w p s : Tree) → IsShaped (t.Pair w (t.Pair p s)) a_use
     → root_inside (the the_path (t.Pair w (t.Pair p s))) ≡ false → root_inside (inside p) ≡ false
 unfolding same_part
 use_path w p s sh e =
-    sym (ap (λ o. root_inside (or_nil o)) (found_behind the_path w _ (found_word the_path w _ sh.0)
+    sym (ap (λ o. root_inside (or_nil o)) (found_behind the_path w (t.Pair p s) (found_word the_path w _ sh.0)
     ∙ found_here the_path p s (inside p) (found_called the_path p _ refl sh.1.0))) ∙ e
 
 pub ruleset paths = (use_path)

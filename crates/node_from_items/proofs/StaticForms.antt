@@ -43,9 +43,10 @@ pub static_typed : (w m i u o s : Tree)
 unfolding same_part
 static_typed w m i u o s sh e =
     no_type u (t.Pair o s) sh.1.1.1.0
-    (ap is_some (sym (found_behind the_type w _ (found_word the_type w _ sh.0)
-    ∙ found_behind the_type m _ (found_maybe_word the_type m _ _ sh.1.0)
-    ∙ found_behind the_type i _ (found_other the_type the_name i _ refl sh.1.1.0))) ∙ e)
+    (ap is_some (sym (found_behind the_type w (t.Pair m (t.Pair i (t.Pair u (t.Pair o s))))
+    (found_word the_type w _ sh.0)
+    ∙ found_behind the_type m (t.Pair i (t.Pair u (t.Pair o s))) (found_maybe_word the_type m _ _ sh.1.0)
+    ∙ found_behind the_type i (t.Pair u (t.Pair o s)) (found_other the_type the_name i _ refl sh.1.1.0))) ∙ e)
     (found_behind the_type o s (value_other the_type o refl sh.1.1.1.1.0) ∙ found_mark the_type s _ _ sh.1.1.1.1.1)
 
 pub static_value : {E : Type 0} (f : E → Tree) (d : Option (Punctuation 13 1 × E)) (w m i u o s : Tree)
@@ -55,10 +56,11 @@ pub static_value : {E : Type 0} (f : E → Tree) (d : Option (Punctuation 13 1 �
 unfolding same_part
 static_value f d w m i u o s sh e =
     value_there f d o sh.1.1.1.1.0 e ∙ sym (or_none (found the_value o))
-    ∙ sym (ap is_some (found_behind the_value w _ (found_word the_value w _ sh.0)
-    ∙ found_behind the_value m _ (found_maybe_word the_value m _ _ sh.1.0)
-    ∙ found_behind the_value i _ (found_other the_value the_name i _ refl sh.1.1.0)
-    ∙ found_behind the_value u _ (type_other the_value u refl sh.1.1.1.0)
+    ∙ sym (ap is_some (found_behind the_value w (t.Pair m (t.Pair i (t.Pair u (t.Pair o s))))
+    (found_word the_value w _ sh.0)
+    ∙ found_behind the_value m (t.Pair i (t.Pair u (t.Pair o s))) (found_maybe_word the_value m _ _ sh.1.0)
+    ∙ found_behind the_value i (t.Pair u (t.Pair o s)) (found_other the_value the_name i _ refl sh.1.1.0)
+    ∙ found_behind the_value u (t.Pair o s) (type_other the_value u refl sh.1.1.1.0)
     ∙ ap (or_else (found the_value o)) (found_mark the_value s _ _ sh.1.1.1.1.1)))
 
 pub ruleset statics = (static_typed, static_value)

@@ -54,11 +54,15 @@ equals_there : (u a w i g b : Tree)
     → has the_equals (t.Pair u (t.Pair a (t.Pair w (t.Pair i (t.Pair g (t.First b)))))) ≡ true
 unfolding same_part
 equals_there u a w i g (t.Pair q r) sh =
-    ap is_some (found_behind the_equals u _ (maybe_other the_equals the_safety u _ _ refl sh.0)
-    ∙ found_behind the_equals a _ (maybe_other the_equals the_auto a _ _ refl sh.1.0)
-    ∙ found_behind the_equals w _ (found_word the_equals w _ sh.1.1.0)
-    ∙ found_behind the_equals i _ (found_other the_equals the_name i _ refl sh.1.1.1.0)
-    ∙ found_behind the_equals g _ (found_other the_equals the_generics g _ refl sh.1.1.1.1.0)
+    ap is_some
+    (found_behind the_equals u (t.Pair a (t.Pair w (t.Pair i (t.Pair g (t.First (t.Pair q r))))))
+    (maybe_other the_equals the_safety u _ _ refl sh.0)
+    ∙ found_behind the_equals a (t.Pair w (t.Pair i (t.Pair g (t.First (t.Pair q r)))))
+    (maybe_other the_equals the_auto a _ _ refl sh.1.0)
+    ∙ found_behind the_equals w (t.Pair i (t.Pair g (t.First (t.Pair q r)))) (found_word the_equals w _ sh.1.1.0)
+    ∙ found_behind the_equals i (t.Pair g (t.First (t.Pair q r)))
+    (found_other the_equals the_name i _ refl sh.1.1.1.0)
+    ∙ found_behind the_equals g (t.First (t.Pair q r)) (found_other the_equals the_generics g _ refl sh.1.1.1.1.0)
     ∙ found_here the_equals q r (inside q) (found_called the_equals q _ refl sh.1.1.1.1.1.0))
 equals_there u a w i g _ sh = absurd sh.1.1.1.1.1
 
@@ -71,9 +75,11 @@ alias_plain u a w i g b sh e =
     let x = t.Pair u (t.Pair a (t.Pair w (t.Pair i (t.Pair g (t.First b))))) in
     let q = neither (has the_equals x) (has the_safety x) (has the_auto x) (kept_true (is_trait x) e)
     (equals_there u a w i g b sh) in (
-      none_there the_safety u _ _ refl sh.0 (found_in the_safety u _ q.0),
-      none_there the_auto a _ _ refl sh.1.0 (found_in the_auto a _
-      (sym (ap is_some (found_behind the_auto u _ (maybe_other the_auto the_safety u _ _ refl sh.0))) ∙ q.1)),
+      none_there the_safety u _ _ refl sh.0
+      (found_in the_safety u (t.Pair a (t.Pair w (t.Pair i (t.Pair g (t.First b))))) q.0),
+      none_there the_auto a _ _ refl sh.1.0 (found_in the_auto a (t.Pair w (t.Pair i (t.Pair g (t.First b))))
+      (sym (ap is_some (found_behind the_auto u (t.Pair a (t.Pair w (t.Pair i (t.Pair g (t.First b)))))
+      (maybe_other the_auto the_safety u _ _ refl sh.0))) ∙ q.1)),
     )
 
 pub ruleset traits = (alias_plain)

@@ -44,8 +44,8 @@ unfolding same_part
 file_form a v i f n j sh e s d =
     let x = t.Pair a (t.Pair v i) in
     let p : found the_item x ≡ Some (inside i) =
-    found_behind the_item a _ (found_node the_item a _ sh.0)
-    ∙ found_behind the_item v _ (found_other the_item the_visibility v _ refl sh.1.0)
+    found_behind the_item a (t.Pair v i) (found_node the_item a _ sh.0)
+    ∙ found_behind the_item v i (found_other the_item the_visibility v _ refl sh.1.0)
     ∙ found_called the_item i _ refl sh.1.1 in
     sym (ap (λ o. form_in k.InFile (is_public (the the_visibility x)) (choice (or_nil o))) p
     ∙ ap (λ y. form_in k.InFile (is_public (the the_visibility x)) (choice y)) e
@@ -70,9 +70,9 @@ unfolding same_part
 member_verdict p a v d i f n j sh e s q =
     let x = t.Pair a (t.Pair v (t.Pair d i)) in
     let r : found the_item x ≡ Some (inside i) =
-    found_behind the_item a _ (found_node the_item a _ sh.0)
-    ∙ found_behind the_item v _ (found_other the_item the_visibility v _ refl sh.1.0)
-    ∙ found_behind the_item d _ (default_other p the_item d refl sh.1.1.0)
+    found_behind the_item a (t.Pair v (t.Pair d i)) (found_node the_item a _ sh.0)
+    ∙ found_behind the_item v (t.Pair d i) (found_other the_item the_visibility v _ refl sh.1.0)
+    ∙ found_behind the_item d i (default_other p the_item d refl sh.1.1.0)
     ∙ found_called the_item i _ refl sh.1.1.1 in
     sym (ap (λ o. form_in p (marked p x) (choice (or_nil o))) r
     ∙ ap (λ y. form_in p (marked p x) (choice y)) e
@@ -122,7 +122,7 @@ pub the_visibility_of : (a v z : Tree) → IsShaped a (ref k.OuterAttributes)
     → the the_visibility (t.Pair a (t.Pair v z)) ≡ inside v
 unfolding same_part
 the_visibility_of a v z h s =
-    ap or_nil (found_behind the_visibility a _ (found_node the_visibility a _ h)
+    ap or_nil (found_behind the_visibility a (t.Pair v z) (found_node the_visibility a _ h)
     ∙ found_here the_visibility v z (inside v) (found_called the_visibility v _ refl s))
 
 -- of a member that is not marked, no pub and no default stands in front
@@ -136,8 +136,8 @@ unmarked p a v d i sh e =
     let x = t.Pair a (t.Pair v (t.Pair d i)) in
     let q = not_either (is_public (the the_visibility x)) (has the_default x) e in (
       private_part v sh.1.0 (ap is_public (sym (the_visibility_of a v (t.Pair d i) sh.0 sh.1.0)) ∙ q.0),
-      sym (ap is_some (found_behind the_default a _ (found_node the_default a _ sh.0)
-      ∙ found_behind the_default v _ (found_other the_default the_visibility v _ refl sh.1.0))) ∙ q.1,
+      sym (ap is_some (found_behind the_default a (t.Pair v (t.Pair d i)) (found_node the_default a _ sh.0)
+      ∙ found_behind the_default v (t.Pair d i) (found_other the_default the_visibility v _ refl sh.1.0))) ∙ q.1,
     )
 
 -- in front of a member of a trait stands neither pub nor default
