@@ -86,7 +86,8 @@ trait_path d c u w g m f r z sh e k =
     ∙ found_behind the_self m (t.Pair f (t.Pair r z)) (maybe_other the_self the_polarity m _ _ refl sh.1.1.1.1.1.0)
     ∙ found_behind the_self f (t.Pair r z) (found_other the_self the_first f _ refl sh.1.1.1.1.1.1.0) in
     sym (ap (λ o. is_path_type (or_nil o)) p)
-    ∙ is_so (has the_self x) (is_path_type (the the_first x)) (right_false (has the_const x) (has the_self x && not (is_path_type (the the_first x))) e)
+    ∙ is_so (has the_self x) (is_path_type (the the_first x))
+    (right_false (has the_const x) (has the_self x && not (is_path_type (the the_first x))) e)
     (ap is_some q ∙ for_found r z sh.1.1.1.1.1.1.1.0 k)
 
 pub ruleset impls = (no_const, trait_path)

@@ -1,5 +1,5 @@
 -- What stands in an item behind what is judged of it, by its place.
-use Rattle.std.specs.Prelude.{ℕ, suc, Bool, true, false, not}
+use Rattle.std.specs.Prelude.{ℕ, suc, Bool, true, not}
 use Rattle.syn_grammar.specs.Gram.{Gram, ref}
 use Rattle.syn_grammar.specs.Items.{maybe_safety, safety, signature_stands}
 use Rattle.syn_grammar.specs.Kind as k
@@ -9,6 +9,7 @@ use Rattle.syn_grammar.specs.Name.{the_item, the_visibility}
 use Rattle.syn_grammar.specs.Say.{◌∶◌, ◌▸◌, when◌read◌else◌, at, refused}
 use Rattle.syn_grammar.specs.Tree as t
 use Rattle.syn_grammar.specs.Tree.{Tree}
+use Rattle.node_from_items.specs.Numbers.{is_const_impl, is_unsafe, is_unsafe_impl}
 
 -- attributes, visibility, and an item
 abbrev pub item_parts : Gram
@@ -39,24 +40,6 @@ foreign_form =
 
 abbrev pub foreign_parts : Gram
 foreign_parts = ref k.OuterAttributes ▸ the_visibility ∶ ref k.Visibility ▸ foreign_form
-
--- An item's kind and whether unsafe stands in front of it tell which alternative it is: of a module, an extern block,
--- a trait and an impl there are several.
-
--- unsafe stands in front
-abbrev pub is_unsafe : Tree → Bool
-is_unsafe (t.Pair (t.First u) x) = true
-is_unsafe x = false
-
--- unsafe stands in front of an impl, and no default before it
-abbrev pub is_unsafe_impl : Tree → Bool
-is_unsafe_impl (t.Pair (t.Second d) (t.Pair c x)) = is_unsafe x
-is_unsafe_impl x = false
-
--- const stands in front of an impl
-abbrev pub is_const_impl : Tree → Bool
-is_const_impl (t.Pair d (t.Pair (t.First c) x)) = true
-is_const_impl x = false
 
 -- the alternative that is counted so, and those behind it
 abbrev pub is_form_numbered : ℕ → Tree → Bool

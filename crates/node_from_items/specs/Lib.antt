@@ -8,4 +8,5 @@ pub mod Modules
 pub mod Macros
 pub mod Verbatim
 pub mod Members
+pub mod Numbers
 pub mod Dispatch

@@ -6,9 +6,7 @@ use Rattle.syn_grammar.specs.Name.{the_auto, the_default, the_equals, the_first,
 use Rattle.syn_grammar.specs.Name.{the_self, the_where}
 use Rattle.syn_grammar.specs.Say.{◌∶◌, ◌▸◌, at, brace, in_braces, keyword, marks, optional, sign}
 use Rattle.syn_grammar.specs.Tree.{Tree}
-use Rattle.node_views.specs.Items.{by_unsafety}
 use Rattle.node_views.specs.Members.{item_trait, item_trait_alias}
-use Rattle.node_words.specs.Words.{alternative}
 use Rattle.node_from_items.specs.declared.traits.Traits.{Traits}
 use Rattle.node_from_items.specs.declared.traits.Traits.TheVariants as traits
 
@@ -53,8 +51,3 @@ optional_for = optional (at "for") (keyword "for" ▸ the_self ∶ ref (k.AType 
 abbrev pub traits_item : {E : Type 0} → (E → Tree) → Traits E → Tree
 traits_item f (traits.Whole x) = item_trait f x
 traits_item f (traits.Alias x) = item_trait_alias f x
-
--- what stands for it among the alternatives of an item
-abbrev pub traits_form : {E : Type 0} → Traits E → Tree → Tree
-traits_form (traits.Whole x) y = by_unsafety x.unsafety 18 11 y
-traits_form (traits.Alias x) y = alternative 18 y

@@ -3,6 +3,7 @@
 ghost use Rattle.node_from_items.specs.Dispatch.{foreign_parts};
 ghost use Rattle.node_from_items.specs.Functions.{body_or_semicolon};
 ghost use Rattle.node_from_items.specs.Members.{foreign_braces};
+ghost use Rattle.node_from_items.specs.Numbers.{by_unsafe, is_unsafe};
 ghost use Rattle.node_from_items.specs.Values.{own};
 ghost use Rattle.node_shapes.specs.Shape.{IsShaped};
 ghost use Rattle.node_views.specs.Generics as generic_views;
@@ -275,7 +276,7 @@ fn foreign_content<E: Drop, R: Reader<E>>(
 /// # Errors
 ///
 /// Where there is no memory for it.
-#[tactic(auto, unfolding(syn_grammar::specs::Table::table, syn_grammar::specs::Kept::held, syn_kinds::specs::Table::marks, syn_kinds::specs::Table::sign, syn_kinds::specs::Table::word))]
+#[tactic(auto, using(crate::proofs::Numbers::numbers), unfolding(syn_grammar::specs::Table::table, syn_grammar::specs::Kept::held, syn_kinds::specs::Table::marks, syn_kinds::specs::Table::sign, syn_kinds::specs::Table::word))]
 pub fn item_foreign_mod<E: Drop, R: Reader<E>>(
     below: &R,
     mut attrs: Vec<Attribute<E>>,
@@ -286,7 +287,7 @@ pub fn item_foreign_mod<E: Drop, R: Reader<E>>(
     requires fewer { node_count tree.now ≤ R.bound below.now }
     requires none_inside { inner_of attrs.items ≡ [] }
     ensures { IfOk result (λ x. views.item_foreign_mod R.view x ≡ items.item_of R.view attrs.items items.private
-        (items.by_unsafety x.unsafety 2 8 (kept tree.now))) }
+        (by_unsafe (is_unsafe (own tree.now)) 2 8 (kept tree.now))) }
 {
     let (safety, convention, enclosed) = take::three(take::node(Kind::AForeignModule, tree));
     let abi = abi(convention)?;

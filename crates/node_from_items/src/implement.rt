@@ -2,6 +2,7 @@
 
 ghost use Rattle.node_from_items.specs.Members.{head_type, impl_braces, optional_default, optional_for};
 ghost use Rattle.node_from_items.specs.Members.{optional_polarity};
+ghost use Rattle.node_from_items.specs.Numbers.{by_unsafe, is_unsafe_impl, what_is_kept};
 ghost use Rattle.node_from_items.specs.Values.{inside as inside_of, own};
 ghost use Rattle.node_shapes.specs.Shape.{IsShaped};
 ghost use Rattle.node_views.specs.Generics as generic_views;
@@ -153,7 +154,8 @@ pub fn impl_item_macro<E: Drop, R: Reader<E>>(
 #[tactic(auto, unfolding(syn_grammar::specs::Table::table, syn_grammar::specs::Kept::held, syn_kinds::specs::Table::marks, syn_kinds::specs::Table::sign, syn_kinds::specs::Table::word))]
 pub fn defaultness(tree: &Tree<'_>) -> Option<token::Default>
     requires { IsShaped tree.now optional_default }
-    ensures { words.optional views.default result ≡ kept tree.now }
+    ensures default { words.optional views.default result ≡ kept tree.now }
+    ensures there { items.is_there result ≡ is_there tree.now }
 {
     match take::optional(tree) {
         Some(word) => Some(take::keyword(take::called(word))),
@@ -260,7 +262,7 @@ fn impl_content<E: Drop, R: Maker<E>>(
 /// # Errors
 ///
 /// Where there is no memory for it.
-#[tactic(auto, using(crate::proofs::ImplForms::impls), unfolding(syn_grammar::specs::Table::table, syn_grammar::specs::Kept::held, syn_kinds::specs::Table::marks, syn_kinds::specs::Table::sign, syn_kinds::specs::Table::word))]
+#[tactic(auto, using(crate::proofs::ImplForms::impls, crate::proofs::Numbers::numbers), unfolding(syn_grammar::specs::Table::table, syn_grammar::specs::Kept::held, syn_kinds::specs::Table::marks, syn_kinds::specs::Table::sign, syn_kinds::specs::Table::word))]
 pub fn item_impl<E: Drop, R: Maker<E>>(
     below: &R,
     mut attrs: Vec<Attribute<E>>,
@@ -272,7 +274,7 @@ pub fn item_impl<E: Drop, R: Maker<E>>(
     requires fewer { node_count tree.now ≤ R.bound below.now }
     requires none_inside { inner_of attrs.items ≡ [] }
     ensures { IfOk result (λ x. views.item_impl R.view x ≡ items.item_of R.view attrs.items items.private
-        (views.impl_number x.modifiers.defaultness x.unsafety (kept tree.now))) }
+        (by_unsafe (is_unsafe_impl (what_is_kept (own tree.now))) 19 10 (kept tree.now))) }
 {
     let inner = take::kept(take::node(Kind::AnImpl, tree));
     let (default, _, safety, impl_token, params, mark, first, behind) = take::eight(inner);

@@ -2,6 +2,8 @@
 
 ghost use Rattle.node_from_items.specs.Functions.{optional_unsafe};
 ghost use Rattle.node_from_items.specs.Modules.{module_end, optional_rename};
+ghost use Rattle.node_from_items.specs.Numbers.{by_unsafe, is_unsafe};
+ghost use Rattle.node_from_items.specs.Values.{own};
 ghost use Rattle.node_shapes.specs.Shape.{IsShaped};
 ghost use Rattle.node_views.specs.Generics as generics;
 ghost use Rattle.node_views.specs.Items as views;
@@ -11,7 +13,7 @@ ghost use Rattle.node_words.specs.Words.{alternative};
 ghost use Rattle.reader_tree.specs.Size.{node_count};
 ghost use Rattle.std.specs.Prelude.{[], ◌≡◌, ◌≤◌, IfOk};
 ghost use Rattle.syn_grammar.specs.Gram as g;
-ghost use Rattle.syn_grammar.specs.Kept.{kept};
+ghost use Rattle.syn_grammar.specs.Kept.{is_there, kept};
 ghost use Rattle.syn_grammar.specs.Kind as k;
 ghost use Rattle.syn_grammar.specs.Tree as t;
 
@@ -156,7 +158,8 @@ fn content<E: Drop, R: Reader<E>>(
 #[tactic(auto, unfolding(syn_grammar::specs::Table::table, syn_grammar::specs::Kept::held, syn_kinds::specs::Table::marks, syn_kinds::specs::Table::sign, syn_kinds::specs::Table::word))]
 pub fn unsafety(tree: &Tree<'_>) -> Option<token::Unsafe>
     requires { IsShaped tree.now optional_unsafe }
-    ensures { words.optional views.unsafety result ≡ kept tree.now }
+    ensures unsafety { words.optional views.unsafety result ≡ kept tree.now }
+    ensures there { views.is_there result ≡ is_there tree.now }
 {
     match take::optional(tree) {
         Some(word) => Some(take::keyword(take::called(word))),
@@ -169,7 +172,7 @@ pub fn unsafety(tree: &Tree<'_>) -> Option<token::Unsafe>
 /// # Errors
 ///
 /// Where there is no memory for it.
-#[tactic(auto, unfolding(syn_grammar::specs::Table::table, syn_grammar::specs::Kept::held, syn_kinds::specs::Table::marks, syn_kinds::specs::Table::sign, syn_kinds::specs::Table::word))]
+#[tactic(auto, using(crate::proofs::Numbers::numbers), unfolding(syn_grammar::specs::Table::table, syn_grammar::specs::Kept::held, syn_kinds::specs::Table::marks, syn_kinds::specs::Table::sign, syn_kinds::specs::Table::word))]
 pub fn item_mod<E: Drop, R: Reader<E>>(
     below: &R,
     front: Front<E>,
@@ -180,7 +183,7 @@ pub fn item_mod<E: Drop, R: Reader<E>>(
     requires fewer { node_count tree.now ≤ R.bound below.now }
     requires none_inside { inner_of front.attrs.items ≡ [] }
     ensures { IfOk result (λ x. views.item_mod R.view x ≡ views.item_of R.view front.attrs.items
-        (generics.visibility R.view front.vis) (views.by_unsafety x.unsafety 12 9 (kept tree.now))) }
+        (generics.visibility R.view front.vis) (by_unsafe (is_unsafe (own tree.now)) 12 9 (kept tree.now))) }
 {
     let (safety, mod_token, named, behind) = take::four(take::node(Kind::AModule, tree));
     let ident = name_or_try(named)?;

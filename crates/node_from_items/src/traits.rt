@@ -2,7 +2,8 @@
 
 ghost use Rattle.node_from_items.specs.Functions.{body_or_semicolon};
 ghost use Rattle.node_from_items.specs.Members.{alias_behind, optional_auto, trait_behind, trait_braces};
-ghost use Rattle.node_from_items.specs.Members.{traits_form, traits_item};
+ghost use Rattle.node_from_items.specs.Members.{traits_item};
+ghost use Rattle.node_from_items.specs.Numbers.{by_unsafe, is_unsafe, what_is_kept};
 ghost use Rattle.node_from_items.specs.Values.{own};
 ghost use Rattle.node_shapes.specs.Shape.{IsShaped};
 ghost use Rattle.node_views.specs.Data as data;
@@ -278,7 +279,7 @@ fn trait_of<E: Drop, R: Maker<E>>(
     requires behind_fewer { node_count behind.now ≤ R.bound below.now }
     requires none_inside { inner_of start.front.attrs.items ≡ [] }
     ensures { IfOk result (λ x. views.item_trait R.view x ≡ items.item_of R.view start.front.attrs.items
-        (generic_views.visibility R.view start.front.vis) (items.by_unsafety x.unsafety 18 11 (t.Node k.ATrait
+        (generic_views.visibility R.view start.front.vis) (items.by_unsafety start.unsafety 18 11 (t.Node k.ATrait
         (words.judged (words.optional items.unsafety start.unsafety ▸ words.optional views.auto start.auto_token
         ▸ words.keyword start.trait_token ▸ data.named start.ident ▸ kept params.now
         ▸ t.Second (kept behind.now)))))) }
@@ -312,7 +313,7 @@ fn trait_of<E: Drop, R: Maker<E>>(
 /// # Errors
 ///
 /// Where there is no memory for it.
-#[tactic(auto, using(crate::proofs::TraitForms::traits), unfolding(syn_grammar::specs::Table::table, syn_grammar::specs::Kept::held, syn_kinds::specs::Table::marks, syn_kinds::specs::Table::sign, syn_kinds::specs::Table::word))]
+#[tactic(auto, using(crate::proofs::TraitForms::traits, crate::proofs::Numbers::numbers), unfolding(syn_grammar::specs::Table::table, syn_grammar::specs::Kept::held, syn_kinds::specs::Table::marks, syn_kinds::specs::Table::sign, syn_kinds::specs::Table::word))]
 pub fn item_traits<E: Drop, R: Maker<E>>(
     below: &R,
     front: Front<E>,
@@ -323,7 +324,8 @@ pub fn item_traits<E: Drop, R: Maker<E>>(
     requires fewer { node_count tree.now ≤ R.bound below.now }
     requires none_inside { inner_of front.attrs.items ≡ [] }
     ensures { IfOk result (λ x. traits_item R.view x ≡ items.item_of R.view front.attrs.items
-        (generic_views.visibility R.view front.vis) (traits_form x (kept tree.now))) }
+        (generic_views.visibility R.view front.vis) (by_unsafe (is_unsafe (what_is_kept (own tree.now))) 18 11
+        (kept tree.now))) }
 {
     let inner = take::kept(take::node(Kind::ATrait, tree));
     let (safety, word, trait_token, named, params, behind) = take::six(inner);

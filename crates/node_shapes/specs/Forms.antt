@@ -11,6 +11,7 @@ use Rattle.syn_grammar.specs.Kind.{ExprAnd, ExprCompare, ExprBitOr, ExprBitXor, 
 use Rattle.syn_grammar.specs.Kind.{ExprProduct}
 use Rattle.syn_grammar.specs.Kind.{AForeignModule, AModule, AStatement, ATrait, ATypeAlias, AnImpl, AnItem, Expression}
 use Rattle.syn_grammar.specs.Kind.{ItemMacro, OuterAttributes}
+use Rattle.syn_grammar.specs.Kept.{is_there}
 use Rattle.syn_grammar.specs.Name.{the_attributes, the_expression}
 use Rattle.syn_grammar.specs.Part.{choice}
 use Rattle.syn_grammar.specs.Tree.{Tree, Pair, First, Second, Called, Node, Whole, Front, Back, Infix}
@@ -125,7 +126,7 @@ is_named_item x = false
 
 -- unsafe stands in front
 abbrev pub is_unsafe : Tree → Bool
-is_unsafe (Pair (First u) x) = true
+is_unsafe (Pair u x) = is_there u
 is_unsafe x = false
 
 -- unsafe stands in front of an impl, and no default before it
@@ -135,7 +136,7 @@ is_unsafe_impl x = false
 
 -- const stands in front of an impl
 abbrev pub is_const_impl : Tree → Bool
-is_const_impl (Pair d (Pair (First c) x)) = true
+is_const_impl (Pair d (Pair c x)) = is_there c
 is_const_impl x = false
 
 -- the alternative that is counted so, and those behind it
