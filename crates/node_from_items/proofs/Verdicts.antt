@@ -1,6 +1,6 @@
 -- What the verdict on an item says of what stands behind its attributes and its visibility.
 use Rattle.std.specs.Prelude.{◌≡◌, ◌&&◌, ◌||◌, ℕ, zero, suc, Bool, None, Some, true, false, not, refl}
-use Rattle.std.proofs.Common.{◌∙◌, ap, sym}
+use Rattle.std.proofs.Common.{◌∙◌, ap, subst, sym}
 use Rattle.std.proofs.lemmas.Bool.{false≢true}
 use Rattle.syn_grammar.specs.Gram.{AsRaw, Keep, Verdict, called, ref}
 use Rattle.syn_grammar.specs.Kept.{held, kept}
@@ -13,12 +13,12 @@ use Rattle.syn_grammar.specs.Tree as t
 use Rattle.syn_grammar.specs.Tree.{Tree}
 use Rattle.syn_grammar.specs.Verdicts.{const_is_raw, form_in, has_bounds, impl_is_raw, is_defined, is_public}
 use Rattle.syn_grammar.specs.Verdicts.{item_verdict, marked, raw_if, refused_if, root_inside}
-use Rattle.syn_grammar.specs.Lists.{default_there}
+use Rattle.syn_grammar.specs.Lists.{default_there, item_form}
 use Rattle.node_shapes.specs.Shape.{IsShaped}
 use Rattle.node_take.specs.Seqs.{among}
 use Rattle.node_views.specs.Items.{private}
 use Rattle.node_words.specs.Words.{absent}
-use Rattle.node_from_items.specs.Dispatch.{item_parts, member_parts}
+use Rattle.node_from_items.specs.Dispatch.{item_parts, member_form, member_parts}
 use Rattle.node_from_items.specs.Values.{inside, own}
 use Rattle.node_from_items.proofs.Found.{found_behind, found_called, found_here, found_node, found_other, inside_shaped}
 use Rattle.node_from_items.proofs.Found.{kept_called}
@@ -291,6 +291,36 @@ pub file_raw : (b : Bool) (f : Tree) (j : k.Kind) → ((x : Tree) → form_in k.
     → IsShaped f (ref j) → form_in k.InFile b f ≡ Keep → ⊥
 file_raw b (t.Node i x) j d h e = cc (sym (d x) ∙ ap (λ l. form_in k.InFile b (t.Node l x)) (sym h.0) ∙ e)
 file_raw b _ j d h e = absurd h
+
+-- Of the alternative that was chosen: it is of that kind, and what is kept is said of it.
+
+pub member_arm : (p : k.Place) (x a v d i y f : Tree) (q : Part) (n m : ℕ)
+    → x ≡ t.Pair a (t.Pair v (t.Pair d i)) → IsShaped x (member_parts p) → item_verdict p x ≡ Keep
+    → i ≡ t.Called q y → y ≡ among 4 n f → n ≡ m
+    → (j : k.Kind) → (IsShaped (among 4 m f) (member_form p) → IsShaped f (ref j))
+    → IsShaped f (ref j) × (form_in p (marked p x) f ≡ Keep)
+member_arm p x a v d i y f q n m e h w c r u j z =
+    let sh = subst (λ b. IsShaped b (member_parts p)) e h in
+    let o : inside i ≡ among 4 m f = ap inside c ∙ r ∙ ap (λ l. among 4 l f) u in
+    let s = z (subst (λ b. IsShaped b (member_form p)) o (inside_shaped the_item i _ sh.1.1.1)) in (
+      s,
+      subst (λ b. form_in p (marked p b) f ≡ Keep) (sym e)
+      (member_verdict p a v d i f m j sh o s (subst (λ b. item_verdict p b ≡ Keep) e w)),
+    )
+
+pub file_arm : (x a v i y f : Tree) (q : Part) (n m : ℕ)
+    → x ≡ t.Pair a (t.Pair v i) → IsShaped x item_parts → item_verdict k.InFile x ≡ Keep
+    → i ≡ t.Called q y → y ≡ among 22 n f → n ≡ m
+    → (j : k.Kind) → (IsShaped (among 22 m f) item_form → IsShaped f (ref j))
+    → IsShaped f (ref j) × (form_in k.InFile (is_public (inside v)) f ≡ Keep)
+file_arm x a v i y f q n m e h w c r u j z =
+    let sh = subst (λ b. IsShaped b item_parts) e h in
+    let o : inside i ≡ among 22 m f = ap inside c ∙ r ∙ ap (λ l. among 22 l f) u in
+    let s = z (subst (λ b. IsShaped b item_form) o (inside_shaped the_item i _ sh.1.1)) in (
+      s,
+      subst (λ b. form_in k.InFile (is_public b) f ≡ Keep) (the_visibility_of a v i sh.0 sh.1.0)
+      (file_form a v i f m j sh o s (subst (λ b. item_verdict k.InFile b ≡ Keep) e w)),
+    )
 
 pub ruleset traits = (member_verdict, unmarked, not_raw)
 
