@@ -1,15 +1,15 @@
 use Rattle.std.specs.Prelude.{◌≡◌, false, true}
-use Rattle.std.proofs.Common.{◌∙◌, ap, subst, sym}
+use Rattle.std.proofs.Common.{◌∙◌, ap, subst}
 use Rattle.syn_grammar.specs.Items.{impl_form, is_impl}
 use Rattle.syn_grammar.specs.Kept as keeps
-use Rattle.syn_grammar.specs.Kept.{held, kept}
+use Rattle.syn_grammar.specs.Kept.{kept}
 use Rattle.syn_grammar.specs.Kind as k
 use Rattle.syn_grammar.specs.Table.{table}
 use Rattle.syn_grammar.specs.Tree as t
 use Rattle.syn_grammar.specs.Verdicts.{impl_is_raw}
 use Rattle.node_shapes.specs.Shape.{IsShaped}
 use Rattle.node_from_items.specs.Values.{own}
-use Rattle.node_from_items.proofs.ImplForms.{no_const, trait_path}
+use Rattle.node_from_items.proofs.ImplForms.{trait_path}
 use Rattle.node_from_items.proofs.implement.item_impl.Goals as goal
 
 pub kept-inner-requires : goal.kept-inner-requires
