@@ -140,7 +140,7 @@ pub fn impl_item_macro<E: Drop, R: Reader<E>>(
     requires shaped { IsShaped tree.now (g.ref (k.ItemMacro k.InImpl)) }
     requires fewer { node_count tree.now ≤ R.bound below.now }
     ensures { IfOk result (λ x. views.impl_item_macro R.view x ≡ views.impl_item_of R.view attrs.items items.private
-        None (last 3 (kept tree.now))) }
+        None (alternative 3 (kept tree.now))) }
 {
     let (mac, semi_token) = member_macro(below, Place::InImpl, tree)?;
     Ok(ImplItemMacro {

@@ -13,7 +13,7 @@ ghost use Rattle.node_views.specs.Items as items;
 ghost use Rattle.node_views.specs.Members as views;
 ghost use Rattle.node_views.specs.Paths.{inner_attributes, inner_of, outer};
 ghost use Rattle.node_words.specs.Words as words;
-ghost use Rattle.node_words.specs.Words.{◌▸◌, alternative, last};
+ghost use Rattle.node_words.specs.Words.{◌▸◌, alternative};
 ghost use Rattle.reader_tree.specs.Size.{node_count};
 ghost use Rattle.std.specs.Prelude.{[], ◌≡◌, ◌≤◌, false, IfOk};
 ghost use Rattle.syn_grammar.specs.Gram as g;
@@ -162,7 +162,7 @@ pub fn trait_item_macro<E: Drop, R: Reader<E>>(
     requires shaped { IsShaped tree.now (g.ref (k.ItemMacro k.InTrait)) }
     requires fewer { node_count tree.now ≤ R.bound below.now }
     ensures { IfOk result (λ x. views.trait_item_macro R.view x ≡ views.trait_item_of R.view attrs.items
-        (last 3 (kept tree.now))) }
+        (alternative 3 (kept tree.now))) }
 {
     let (mac, semi_token) = member_macro(below, Place::InTrait, tree)?;
     Ok(TraitItemMacro {

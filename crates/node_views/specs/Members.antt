@@ -84,7 +84,7 @@ trait_item_type f x =
 
 abbrev pub trait_item_macro : {E : Type 0} → (E → Tree) → TraitItemMacro E → Tree
 trait_item_macro f x =
-    trait_item_of f x.attrs.items (last 3 (macro_form f k.InTrait x.mac t.Nil x.semi_token))
+    trait_item_of f x.attrs.items (alternative 3 (macro_form f k.InTrait x.mac t.Nil x.semi_token))
 
 abbrev pub trait_item : {E : Type 0} → (E → Tree) → TraitItem E → Tree
 trait_item f (traits.Const x) = trait_item_const f x
@@ -142,7 +142,7 @@ impl_item_type f x =
 
 abbrev pub impl_item_macro : {E : Type 0} → (E → Tree) → ImplItemMacro E → Tree
 impl_item_macro f x =
-    impl_item_of f x.attrs.items private None (last 3 (macro_form f k.InImpl x.mac t.Nil x.semi_token))
+    impl_item_of f x.attrs.items private None (alternative 3 (macro_form f k.InImpl x.mac t.Nil x.semi_token))
 
 abbrev pub impl_item : {E : Type 0} → (E → Tree) → ImplItem E → Tree
 impl_item f (impls.Const x) = impl_item_const f x
