@@ -34,11 +34,13 @@ pub early_end : {E : Type 0} (f : E → Tree) (o : Option (WhereClause E)) (w d 
     → IsShaped (t.First (t.Pair w d)) either_end → is_placed (t.First (t.Pair w d)) ≡ true
     → conditions f o ≡ kept w
     → type_end placements.Early (is_there o) (conditions f o) (kept d) ≡ t.First (t.Pair (kept w) (kept d))
+unfolding table
 early_end f (Some c) w d h e q = ap (λ x. t.First (t.Pair x (kept d))) q
-early_end f None (t.Called n (t.Node j (t.First x))) d h e q = cc (q)
-early_end f None (t.Called n (t.Node j (t.Second x))) d h e q = absurd (false≢true e)
-early_end f None (t.Called n (t.Node j _)) d h e q = cc (q)
-early_end f None (t.Called n _) d h e q = cc (q)
+early_end f None (t.Called n (t.Node k.Where (t.First x))) d h e q = cc (q)
+early_end f None (t.Called n (t.Node k.Where (t.Second x))) d h e q = absurd (false≢true e)
+early_end f None (t.Called n (t.Node k.Where _)) d h e q = absurd h.0.1.1
+early_end f None (t.Called n (t.Node _ x)) d h e q = cc (h.0.1.0)
+early_end f None (t.Called n _) d h e q = absurd h.0.1
 early_end f None _ d h e q = absurd h.0
 
 -- conditions behind no definition are none
@@ -46,11 +48,13 @@ pub late_undefined : {E : Type 0} (f : E → Tree) (o : Option (WhereClause E)) 
     → IsShaped (t.Second (t.Pair d w)) either_end → is_placed (t.Second (t.Pair d w)) ≡ true
     → conditions f o ≡ kept w → absent ≡ kept d
     → type_end placements.Early (is_there o) (conditions f o) absent ≡ t.Second (t.Pair (kept d) (kept w))
+unfolding table
 late_undefined f None d w h e q r = cc (q, r)
-late_undefined f (Some c) (t.Second x) (t.Called n (t.Node j (t.First y))) h e q r = absurd (false≢true e)
-late_undefined f (Some c) (t.Second x) (t.Called n (t.Node j (t.Second y))) h e q r = cc (q)
-late_undefined f (Some c) (t.Second x) (t.Called n (t.Node j _)) h e q r = cc (q)
-late_undefined f (Some c) (t.Second x) (t.Called n _) h e q r = cc (q)
+late_undefined f (Some c) (t.Second x) (t.Called n (t.Node k.Where (t.First y))) h e q r = absurd (false≢true e)
+late_undefined f (Some c) (t.Second x) (t.Called n (t.Node k.Where (t.Second y))) h e q r = cc (q)
+late_undefined f (Some c) (t.Second x) (t.Called n (t.Node k.Where _)) h e q r = absurd h.1.1.1
+late_undefined f (Some c) (t.Second x) (t.Called n (t.Node _ y)) h e q r = cc (h.1.1.0)
+late_undefined f (Some c) (t.Second x) (t.Called n _) h e q r = absurd h.1.1
 late_undefined f (Some c) (t.Second x) _ h e q r = absurd h.1
 late_undefined f (Some c) (t.First x) w h e q r = cc (r)
 late_undefined f (Some c) _ w h e q r = absurd h.0

@@ -1,5 +1,5 @@
 -- A type that is a path.
-use Rattle.std.specs.Prelude.{◌≡◌, ◌<◌, ℕ, suc, true, refl}
+use Rattle.std.specs.Prelude.{◌≡◌, ◌<◌, ℕ, zero, suc, true, refl}
 use Rattle.std.proofs.Common.{◌∙◌, ap, arith, sym}
 use Rattle.std.proofs.lemmas.Bool.{false≢true}
 use Rattle.syn_grammar.specs.Gram.{ref}
@@ -19,15 +19,15 @@ other l _ d h e = absurd h
 
 pub no_other_type : (n : ℕ) (x : Tree) → n < 9 → IsShaped (among 9 n x) (type_entry k.WithPlus)
     → is_path (choice (among 9 n x)) ≡ true → ⊥
-no_other_type 0 x l h e = other k.TupleType x (λ y. refl) h e
-no_other_type 1 x l h e = other k.NeverType x (λ y. refl) h e
-no_other_type 2 x l h e = other k.ReferenceType x (λ y. refl) h e
-no_other_type 3 x l h e = other k.PointerType x (λ y. refl) h e
-no_other_type 4 x l h e = other k.BracketType x (λ y. refl) h e
-no_other_type 5 x l h e = other k.InferType x (λ y. refl) h e
-no_other_type 6 x l h e = other (k.DynType k.WithPlus) x (λ y. refl) h e
-no_other_type 7 x l h e = other (k.ImplType k.WithPlus) x (λ y. refl) h e
-no_other_type 8 x l h e = other k.FnPtrType x (λ y. refl) h e
+no_other_type zero x l h e = other k.TupleType x (λ y. refl) h e
+no_other_type (suc zero) x l h e = other k.NeverType x (λ y. refl) h e
+no_other_type (suc (suc zero)) x l h e = other k.ReferenceType x (λ y. refl) h e
+no_other_type (suc (suc (suc zero))) x l h e = other k.PointerType x (λ y. refl) h e
+no_other_type (suc (suc (suc (suc zero)))) x l h e = other k.BracketType x (λ y. refl) h e
+no_other_type (suc (suc (suc (suc (suc zero))))) x l h e = other k.InferType x (λ y. refl) h e
+no_other_type (suc (suc (suc (suc (suc (suc zero)))))) x l h e = other (k.DynType k.WithPlus) x (λ y. refl) h e
+no_other_type (suc (suc (suc (suc (suc (suc (suc zero))))))) x l h e = other (k.ImplType k.WithPlus) x (λ y. refl) h e
+no_other_type (suc (suc (suc (suc (suc (suc (suc (suc zero)))))))) x l h e = other k.FnPtrType x (λ y. refl) h e
 no_other_type (suc (suc (suc (suc (suc (suc (suc (suc (suc n))))))))) x l h e = absurd (omega (arith, l))
 
 pub ruleset paths = (no_other_type)

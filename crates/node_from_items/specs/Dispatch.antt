@@ -1,5 +1,5 @@
 -- What stands in an item behind what is judged of it, by its place.
-use Rattle.std.specs.Prelude.{ℕ, suc, Bool, true, not}
+use Rattle.std.specs.Prelude.{ℕ, suc, Bool, true, cond, nat_eq, not}
 use Rattle.syn_grammar.specs.Gram.{Gram, ref}
 use Rattle.syn_grammar.specs.Items.{maybe_safety, safety, signature_stands}
 use Rattle.syn_grammar.specs.Kind as k
@@ -43,16 +43,12 @@ foreign_parts = ref k.OuterAttributes ▸ the_visibility ∶ ref k.Visibility �
 
 -- the alternative that is counted so, and those behind it
 abbrev pub is_form_numbered : ℕ → Tree → Bool
-is_form_numbered 2 (t.First (t.Node k.AForeignModule x)) = not (is_unsafe x)
-is_form_numbered 6 (t.First (t.Node k.AnImpl (t.First x))) = is_const_impl x
-is_form_numbered 8 (t.First (t.Node k.AForeignModule x)) = is_unsafe x
-is_form_numbered 9 (t.First (t.Node k.AModule x)) = is_unsafe x
-is_form_numbered 10 (t.First (t.Node k.AnImpl (t.First x))) = is_unsafe_impl x
-is_form_numbered 11 (t.First (t.Node k.ATrait (t.First x))) = is_unsafe x
-is_form_numbered 12 (t.First (t.Node k.AModule x)) = not (is_unsafe x)
-is_form_numbered 18 (t.First (t.Node k.ATrait (t.First x))) = not (is_unsafe x)
-is_form_numbered 19 (t.First (t.Node k.AnImpl (t.First x))) = not (is_unsafe_impl x)
 is_form_numbered n (t.Second x) = is_form_numbered (suc n) x
+is_form_numbered n (t.First (t.Node k.AForeignModule x)) = cond (nat_eq n 2) (not (is_unsafe x)) (is_unsafe x)
+is_form_numbered n (t.First (t.Node k.AModule x)) = cond (nat_eq n 12) (not (is_unsafe x)) (is_unsafe x)
+is_form_numbered n (t.First (t.Node k.ATrait (t.First x))) = cond (nat_eq n 18) (not (is_unsafe x)) (is_unsafe x)
+is_form_numbered n (t.First (t.Node k.AnImpl (t.First x))) =
+    cond (nat_eq n 6) (is_const_impl x) (cond (nat_eq n 19) (not (is_unsafe_impl x)) (is_unsafe_impl x))
 is_form_numbered n x = true
 
 -- the same of attributes, a visibility and an item

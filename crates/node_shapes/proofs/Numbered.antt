@@ -249,28 +249,46 @@ from zero a = a
 from (suc n) (alt test a b) = from n b
 from (suc n) a = a
 
+-- one of another kind is no matter which
+plain : (n : ℕ) (l : k.Kind) (x : Tree) (r : List Token) → ((y : Tree) → is_numbered n (t.First (t.Node l y)) ≡ true)
+    → Derives x (ref l) r → is_numbered n (t.First x) ≡ true
+plain n l (t.Node j y) r f d = subst (λ i. is_numbered n (t.First (t.Node i y)) ≡ true) (sym d.0) (f y)
+plain n l _ r f d = absurd d
+
 numbered_18 : (x : Tree) (r : List Token) → Derives x (from 18 item_form) r → is_numbered 18 x ≡ true
 numbered_18 (t.First x) r d = in_trait x (at "trait") r d.1 d.0
 numbered_18 (t.Second (t.First x)) r d = in_impl x (no (marks "!")) r d.1.1 d.1.0
-numbered_18 (t.Second (t.Second (t.First x))) r d = refl
-numbered_18 (t.Second (t.Second (t.Second (t.First x)))) r d = refl
-numbered_18 (t.Second (t.Second (t.Second (t.Second x)))) r d = absurd d.1.1.1.1
-numbered_18 _ r d = refl
+numbered_18 (t.Second (t.Second (t.First x))) r d = plain 20 k.AMacroDefinition x r (λ y. refl) d.1.1.1
+numbered_18 (t.Second (t.Second (t.Second (t.First x)))) r d =
+    plain 21 (k.ItemMacro k.InFile) x r (λ y. refl) d.1.1.1.1
+numbered_18 (t.Second (t.Second (t.Second (t.Second t.Nil)))) r d = absurd d.1.1.1.1
+numbered_18 (t.Second (t.Second (t.Second (t.Second _)))) r d = absurd d.1.1.1.1
+numbered_18 (t.Second (t.Second (t.Second _))) r d = absurd d.1.1.1
+numbered_18 (t.Second (t.Second _)) r d = absurd d.1.1
+numbered_18 (t.Second _) r d = absurd d.1
+numbered_18 _ r d = absurd d
 
 numbered_12 : (x : Tree) (r : List Token) → Derives x (from 12 item_form) r → is_numbered 12 x ≡ true
 numbered_12 (t.First x) r d = in_mod x r d.1 d.0
-numbered_12 (t.Second (t.First x)) r d = refl
-numbered_12 (t.Second (t.Second (t.First x))) r d = refl
-numbered_12 (t.Second (t.Second (t.Second (t.First x)))) r d = refl
-numbered_12 (t.Second (t.Second (t.Second (t.Second (t.First x))))) r d = refl
-numbered_12 (t.Second (t.Second (t.Second (t.Second (t.Second (t.First x)))))) r d = refl
+numbered_12 (t.Second (t.First x)) r d = plain 13 (k.ATypeAlias k.InFile) x r (λ y. refl) d.1.1
+numbered_12 (t.Second (t.Second (t.First x))) r d = plain 14 k.AStruct x r (λ y. refl) d.1.1.1
+numbered_12 (t.Second (t.Second (t.Second (t.First x)))) r d = plain 15 k.AnEnum x r (λ y. refl) d.1.1.1.1
+numbered_12 (t.Second (t.Second (t.Second (t.Second (t.First x))))) r d =
+    plain 16 k.AUnion x r (λ y. refl) d.1.1.1.1.1
+numbered_12 (t.Second (t.Second (t.Second (t.Second (t.Second (t.First x)))))) r d =
+    plain 17 k.ARestrictedTrait x r (λ y. refl) d.1.1.1.1.1.1
 numbered_12 (t.Second (t.Second (t.Second (t.Second (t.Second (t.Second x)))))) r d =
     numbered_18 x r d.1.1.1.1.1.1
-numbered_12 _ r d = refl
+numbered_12 (t.Second (t.Second (t.Second (t.Second (t.Second _))))) r d = absurd d.1.1.1.1.1
+numbered_12 (t.Second (t.Second (t.Second (t.Second _)))) r d = absurd d.1.1.1.1
+numbered_12 (t.Second (t.Second (t.Second _))) r d = absurd d.1.1.1
+numbered_12 (t.Second (t.Second _)) r d = absurd d.1.1
+numbered_12 (t.Second _) r d = absurd d.1
+numbered_12 _ r d = absurd d
 
 numbered_6 : (x : Tree) (r : List Token) → Derives x (from 6 item_form) r → is_numbered 6 x ≡ true
 numbered_6 (t.First x) r d = in_const_impl x (maybe (at "unsafe") then at "impl") r d.1 d.0
-numbered_6 (t.Second (t.First x)) r d = refl
+numbered_6 (t.Second (t.First x)) r d = plain 7 k.AConst x r (λ y. refl) d.1.1
 numbered_6 (t.Second (t.Second (t.First x))) r d = in_unsafe_extern x (at "extern") r d.1.1.1 d.1.1.0
 numbered_6 (t.Second (t.Second (t.Second (t.First x)))) r d = in_unsafe_mod x (at "mod") r d.1.1.1.1 d.1.1.1.0
 numbered_6 (t.Second (t.Second (t.Second (t.Second (t.First x))))) r d =
@@ -278,14 +296,26 @@ numbered_6 (t.Second (t.Second (t.Second (t.Second (t.First x))))) r d =
 numbered_6 (t.Second (t.Second (t.Second (t.Second (t.Second (t.First x)))))) r d =
     in_unsafe_trait x r d.1.1.1.1.1.1 d.1.1.1.1.1.0
 numbered_6 (t.Second (t.Second (t.Second (t.Second (t.Second (t.Second x)))))) r d = numbered_12 x r d.1.1.1.1.1.1
-numbered_6 _ r d = refl
+numbered_6 (t.Second (t.Second (t.Second (t.Second (t.Second _))))) r d = absurd d.1.1.1.1.1
+numbered_6 (t.Second (t.Second (t.Second (t.Second _)))) r d = absurd d.1.1.1.1
+numbered_6 (t.Second (t.Second (t.Second _))) r d = absurd d.1.1.1
+numbered_6 (t.Second (t.Second _)) r d = absurd d.1.1
+numbered_6 (t.Second _) r d = absurd d.1
+numbered_6 _ r d = absurd d
 
 pub numbered : (x : Tree) (r : List Token) → Derives x item_form r → is_numbered 0 x ≡ true
-numbered (t.First x) r d = refl
-numbered (t.Second (t.First x)) r d = refl
+numbered (t.First x) r d = plain 0 (k.AFunction k.InFile) x r (λ y. refl) d.1
+numbered (t.Second (t.First x)) r d = plain 1 k.AnExternCrate x r (λ y. refl) d.1.1
 numbered (t.Second (t.Second (t.First x))) r d = in_extern x r d.1.1.1 d.1.1.0
-numbered (t.Second (t.Second (t.Second (t.First x)))) r d = refl
-numbered (t.Second (t.Second (t.Second (t.Second (t.First x))))) r d = refl
-numbered (t.Second (t.Second (t.Second (t.Second (t.Second (t.First x)))))) r d = refl
+numbered (t.Second (t.Second (t.Second (t.First x)))) r d = plain 3 k.AUse x r (λ y. refl) d.1.1.1.1
+numbered (t.Second (t.Second (t.Second (t.Second (t.First x))))) r d =
+    plain 4 k.AStatic x r (λ y. refl) d.1.1.1.1.1
+numbered (t.Second (t.Second (t.Second (t.Second (t.Second (t.First x)))))) r d =
+    plain 5 k.AConstTrait x r (λ y. refl) d.1.1.1.1.1.1
 numbered (t.Second (t.Second (t.Second (t.Second (t.Second (t.Second x)))))) r d = numbered_6 x r d.1.1.1.1.1.1
-numbered _ r d = refl
+numbered (t.Second (t.Second (t.Second (t.Second (t.Second _))))) r d = absurd d.1.1.1.1.1
+numbered (t.Second (t.Second (t.Second (t.Second _)))) r d = absurd d.1.1.1.1
+numbered (t.Second (t.Second (t.Second _))) r d = absurd d.1.1.1
+numbered (t.Second (t.Second _)) r d = absurd d.1.1
+numbered (t.Second _) r d = absurd d.1
+numbered _ r d = absurd d

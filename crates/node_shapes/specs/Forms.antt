@@ -1,5 +1,5 @@
 -- The forms of an expression by the operands that they have, and what may stand behind one.
-use Rattle.std.specs.Prelude.{ℕ, suc, Bool, true, false, not}
+use Rattle.std.specs.Prelude.{ℕ, suc, Bool, true, false, cond, nat_eq, not}
 use Rattle.syn_grammar.specs.Kind.{Kind, ExprLit, ExprPath, ExprMacro, ExprParen, ExprArray, ExprRepeat, ExprGroup}
 use Rattle.syn_grammar.specs.Kind.{ExprInfer, ExprBlock, ExprUnsafe, ExprAsync, ExprConst, ExprTryBlock, ExprIf}
 use Rattle.syn_grammar.specs.Kind.{ExprMatch, ExprLoop, ExprWhile, ExprForLoop, ExprContinue, ExprTypedClosure}
@@ -141,16 +141,12 @@ is_const_impl x = false
 
 -- the alternative that is counted so, and those behind it
 abbrev pub is_numbered : ℕ → Tree → Bool
-is_numbered 2 (First (Node AForeignModule x)) = not (is_unsafe x)
-is_numbered 6 (First (Node AnImpl (First x))) = is_const_impl x
-is_numbered 8 (First (Node AForeignModule x)) = is_unsafe x
-is_numbered 9 (First (Node AModule x)) = is_unsafe x
-is_numbered 10 (First (Node AnImpl (First x))) = is_unsafe_impl x
-is_numbered 11 (First (Node ATrait (First x))) = is_unsafe x
-is_numbered 12 (First (Node AModule x)) = not (is_unsafe x)
-is_numbered 18 (First (Node ATrait (First x))) = not (is_unsafe x)
-is_numbered 19 (First (Node AnImpl (First x))) = not (is_unsafe_impl x)
 is_numbered n (Second x) = is_numbered (suc n) x
+is_numbered n (First (Node AForeignModule x)) = cond (nat_eq n 2) (not (is_unsafe x)) (is_unsafe x)
+is_numbered n (First (Node AModule x)) = cond (nat_eq n 12) (not (is_unsafe x)) (is_unsafe x)
+is_numbered n (First (Node ATrait (First x))) = cond (nat_eq n 18) (not (is_unsafe x)) (is_unsafe x)
+is_numbered n (First (Node AnImpl (First x))) =
+    cond (nat_eq n 6) (is_const_impl x) (cond (nat_eq n 19) (not (is_unsafe_impl x)) (is_unsafe_impl x))
 is_numbered n x = true
 
 -- The where clause of a type with another name stands in front of its definition if it is one. Behind it there is one
