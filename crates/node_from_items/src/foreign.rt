@@ -24,12 +24,12 @@ ghost use Rattle.syn_grammar.specs.Tree as t;
 ghost use Rattle.syn_grammar.specs.Verdicts.{item_verdict};
 
 use crate::aliases::foreign_item_type;
-use crate::front::{Front, front};
+use crate::front::{Front, what_stands_in_front};
 use crate::functions::{safety, signature};
 use crate::macros::member_macro;
 use crate::modules::unsafety;
 use crate::values::{StaticParts, static_parts};
-use crate::verbatim::{Judged, as_read, judged};
+use crate::verbatim::{Judged, as_read, what_is_judged};
 use node_from::Reader;
 use node_from::abi::abi;
 use node_from::attributes::push_inner_attributes;
@@ -172,7 +172,7 @@ fn kept_foreign_item<E: Drop, R: Reader<E>>(
         (kept tree.now))) }
 {
     let (attrs, vis, form) = take::three(tree);
-    let front = front(below, attrs, vis)?;
+    let front = what_stands_in_front(below, attrs, vis)?;
     let (which, own) = take::alternative(4, form);
     match which {
         0 => Ok(ForeignItem::Fn(foreign_item_fn(
@@ -216,7 +216,7 @@ pub fn foreign_item<E: Drop, R: Reader<E>>(
     requires fewer { node_count tree.now ≤ R.bound below.now }
     ensures { IfOk result (λ x. views.foreign_item R.view x ≡ kept tree.now) }
 {
-    match judged(take::node(Kind::AForeignItem, tree)) {
+    match what_is_judged(take::node(Kind::AForeignItem, tree)) {
         Judged::Kept(own) => kept_foreign_item(below, own),
         Judged::Raw(own) => Ok(ForeignItem::Verbatim(as_read(below.alloc(), own)?)),
     }

@@ -35,7 +35,7 @@ pub struct Front<E> {
 ///
 /// Where there is no memory for it.
 #[tactic(auto, unfolding(syn_grammar::specs::Table::table, syn_grammar::specs::Kept::held, syn_kinds::specs::Table::marks, syn_kinds::specs::Table::sign, syn_kinds::specs::Table::word))]
-pub fn front<E: Drop, R: Reader<E>>(
+pub fn what_stands_in_front<E: Drop, R: Reader<E>>(
     below: &R,
     attrs: &Tree<'_>,
     vis: &Tree<'_>,

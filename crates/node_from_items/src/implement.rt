@@ -205,7 +205,7 @@ pub struct Head<E> {
 
 // What an impl is of.
 #[tactic(auto, unfolding(syn_grammar::specs::Table::table, syn_grammar::specs::Kept::held, syn_kinds::specs::Table::marks, syn_kinds::specs::Table::sign, syn_kinds::specs::Table::word))]
-fn head<E: Drop, R: Reader<E>>(
+fn head_of<E: Drop, R: Reader<E>>(
     below: &R,
     first: &Tree<'_>,
     second: &Tree<'_>,
@@ -279,7 +279,7 @@ pub fn item_impl<E: Drop, R: Maker<E>>(
     let inner = take::kept(take::node(Kind::AnImpl, tree));
     let (default, _, safety, impl_token, params, mark, first, behind) = take::eight(inner);
     let (second, conditions, enclosed) = take::three(behind);
-    let Head { trait_, self_ty } = head(below, first, second)?;
+    let Head { trait_, self_ty } = head_of(below, first, second)?;
     let conditions = optional_where(below, conditions)?;
     let generics = impl_generics(below, take::called(params), conditions)?;
     let (brace_token, members) = impl_content(below, enclosed, &mut attrs)?;

@@ -18,7 +18,7 @@ ghost use Rattle.syn_grammar.specs.Verdicts.{item_verdict};
 use crate::aliases::item_type;
 use crate::data::{item_enum, item_struct, item_union};
 use crate::foreign::item_foreign_mod;
-use crate::front::front;
+use crate::front::what_stands_in_front;
 use crate::functions::item_fn;
 use crate::implement::item_impl;
 use crate::imports::item_use;
@@ -26,7 +26,7 @@ use crate::macros::item_macro;
 use crate::modules::{item_extern_crate, item_mod};
 use crate::traits::{Traits, item_traits};
 use crate::values::{item_const, item_static};
-use crate::verbatim::{Judged, as_read, judged};
+use crate::verbatim::{Judged, as_read, what_is_judged};
 use node_from_bodies::Maker;
 use node_items::{
     ItemConst, ItemEnum, ItemExternCrate, ItemFn, ItemForeignMod, ItemImpl, ItemMacro, ItemMod,
@@ -190,7 +190,7 @@ fn kept_item<E: Drop, R: ItemMaker<E>>(below: &R, tree: &Tree<'_>) -> Result<E, 
     ensures { IfOk result (λ x. R.view x ≡ t.Node k.AnItem (kept_first (kept tree.now))) }
 {
     let (attrs, vis, own) = take::three(tree);
-    let front = front(below, attrs, vis)?;
+    let front = what_stands_in_front(below, attrs, vis)?;
     let (which, form) = take::alternative(22, take::called(own));
     match which {
         0 => below.of_fn(item_fn(below, front, form)?),
@@ -223,7 +223,7 @@ pub fn item<E: Drop, R: ItemMaker<E>>(below: &R, tree: &Tree<'_>) -> Result<E, A
     requires fewer { node_count tree.now ≤ R.bound below.now }
     ensures { IfOk result (λ x. R.view x ≡ kept tree.now) }
 {
-    match judged(take::node(Kind::AnItem, tree)) {
+    match what_is_judged(take::node(Kind::AnItem, tree)) {
         Judged::Kept(own) => kept_item(below, own),
         Judged::Raw(own) => below.of_tokens(as_read(below.alloc(), own)?),
     }

@@ -13,10 +13,10 @@ ghost use Rattle.syn_grammar.specs.Tree as t;
 ghost use Rattle.syn_grammar.specs.Verdicts.{item_verdict};
 
 use crate::aliases::{impl_item_type, trait_item_type};
-use crate::front::front;
+use crate::front::what_stands_in_front;
 use crate::implement::{defaultness, impl_item_const, impl_item_fn, impl_item_macro};
 use crate::traits::{trait_item_const, trait_item_fn, trait_item_macro};
-use crate::verbatim::{Judged, as_read, judged};
+use crate::verbatim::{Judged, as_read, what_is_judged};
 use node_from::attributes::outer_attributes;
 use node_from_bodies::Maker;
 use node_items::implement::ImplItem;
@@ -66,7 +66,7 @@ pub fn trait_item<E: Drop, R: Maker<E>>(
     requires fewer { node_count tree.now ≤ R.bound below.now }
     ensures { IfOk result (λ x. views.trait_item R.view x ≡ kept tree.now) }
 {
-    match judged(take::node(Kind::ATraitItem, tree)) {
+    match what_is_judged(take::node(Kind::ATraitItem, tree)) {
         Judged::Kept(own) => kept_trait_item(below, own),
         Judged::Raw(own) => Ok(TraitItem::Verbatim(as_read(below.alloc(), own)?)),
     }
@@ -110,7 +110,7 @@ fn kept_impl_item<E: Drop, R: Maker<E>>(
     ensures { IfOk result (λ x. views.impl_item R.view x ≡ t.Node k.AnImplItem (kept_first (kept tree.now))) }
 {
     let (attrs, vis, word, own) = take::four(tree);
-    let front = front(below, attrs, vis)?;
+    let front = what_stands_in_front(below, attrs, vis)?;
     let word = defaultness(word);
     let (which, form) = take::alternative(4, take::called(own));
     match which {
@@ -137,7 +137,7 @@ pub fn impl_item<E: Drop, R: Maker<E>>(
     requires fewer { node_count tree.now ≤ R.bound below.now }
     ensures { IfOk result (λ x. views.impl_item R.view x ≡ kept tree.now) }
 {
-    match judged(take::node(Kind::AnImplItem, tree)) {
+    match what_is_judged(take::node(Kind::AnImplItem, tree)) {
         Judged::Kept(own) => kept_impl_item(below, own),
         Judged::Raw(own) => Ok(ImplItem::Verbatim(as_read(below.alloc(), own)?)),
     }

@@ -105,7 +105,7 @@ impl<'r, E: Drop, R: Reader<E>> Make<E> for Items<'r, R> {
 
 // The items that stand in braces.
 #[tactic(auto, unfolding(syn_grammar::specs::Table::table, syn_grammar::specs::Kept::held, syn_kinds::specs::Table::marks, syn_kinds::specs::Table::sign, syn_kinds::specs::Table::word))]
-fn items<E: Drop, R: Reader<E>>(below: &R, tree: &Tree<'_>) -> Result<Vec<E>, AllocError>
+fn all_items<E: Drop, R: Reader<E>>(below: &R, tree: &Tree<'_>) -> Result<Vec<E>, AllocError>
     requires ready { R.ready below.now }
     requires shaped { IsShaped tree.now (g.ref k.Items) }
     requires fewer { node_count tree.now ≤ R.bound below.now }
@@ -125,7 +125,7 @@ pub struct Content<E> {
 
 // The items of a module, if they are there, with the attributes inside put behind those in front.
 #[tactic(auto, unfolding(syn_grammar::specs::Table::table, syn_grammar::specs::Kept::held, syn_kinds::specs::Table::marks, syn_kinds::specs::Table::sign, syn_kinds::specs::Table::word))]
-fn content<E: Drop, R: Reader<E>>(
+fn module_content<E: Drop, R: Reader<E>>(
     below: &R,
     tree: &Tree<'_>,
     attrs: &mut Vec<Attribute<E>>,
@@ -147,7 +147,7 @@ fn content<E: Drop, R: Reader<E>>(
             let (within, own) = take::pair(inside);
             push_inner_attributes(below, within, attrs)?;
             Ok(Content {
-                content: Some((brace_token, items(below, own)?)),
+                content: Some((brace_token, all_items(below, own)?)),
                 semi: None,
             })
         }
@@ -189,7 +189,7 @@ pub fn item_mod<E: Drop, R: Reader<E>>(
     let ident = name_or_try(named)?;
     let vis = front.vis;
     let mut attrs = front.attrs;
-    let Content { content, semi } = content(below, behind, &mut attrs)?;
+    let Content { content, semi } = module_content(below, behind, &mut attrs)?;
     Ok(ItemMod {
         attrs,
         vis,

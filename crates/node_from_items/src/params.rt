@@ -144,7 +144,7 @@ fn followed<E>(variadic: Variadic<E>, comma: token::Comma) -> Variadic<E>
 ///
 /// Where there is no memory for it.
 #[tactic(auto, unfolding(syn_grammar::specs::Table::table, syn_grammar::specs::Kept::held, syn_kinds::specs::Table::marks, syn_kinds::specs::Table::sign, syn_kinds::specs::Table::word))]
-pub fn param<E: Drop, R: Reader<E>>(below: &R, tree: &Tree<'_>) -> Result<Param<E>, AllocError>
+pub fn any_param<E: Drop, R: Reader<E>>(below: &R, tree: &Tree<'_>) -> Result<Param<E>, AllocError>
     requires ready { R.ready below.now }
     requires shaped { IsShaped tree.now (g.ref k.Parameter) }
     requires fewer { node_count tree.now ≤ R.bound below.now }
@@ -210,7 +210,7 @@ pub fn params<E: Drop, R: Reader<E>>(
     let Listed { before, last } = take::elements(',', tree);
     let mut list = Punctuated::new(below.alloc());
     for element in before {
-        let made = param(below, &element.tree)?;
+        let made = any_param(below, &element.tree)?;
         let comma = Punctuation::new([element.spacing.span()]);
         match made {
             Param::Arg(arg) => {
@@ -221,7 +221,7 @@ pub fn params<E: Drop, R: Reader<E>>(
         }
     }
     if let Some(element) = last {
-        match param(below, element)? {
+        match any_param(below, element)? {
             Param::Arg(arg) => list.push_value(arg)?,
             Param::Dots(variadic) => return Ok((list, Some(variadic))),
         }

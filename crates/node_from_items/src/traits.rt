@@ -6,7 +6,7 @@ ghost use Rattle.node_from_items.specs.Members.{traits_item};
 ghost use Rattle.node_from_items.specs.Numbers.{by_unsafe, is_unsafe, what_is_kept};
 ghost use Rattle.node_from_items.specs.Values.{own};
 ghost use Rattle.node_shapes.specs.Shape.{IsShaped};
-ghost use Rattle.node_views.specs.Data as data;
+ghost use Rattle.node_views.specs.Data as fields;
 ghost use Rattle.node_views.specs.Functions as functions;
 ghost use Rattle.node_views.specs.Generics as generic_views;
 ghost use Rattle.node_views.specs.Items as items;
@@ -223,7 +223,7 @@ fn alias_of<E: Drop, R: Reader<E>>(
     requires behind_fewer { node_count behind.now ≤ R.bound below.now }
     ensures { IfOk result (λ x. views.item_trait_alias R.view x ≡ items.item_of R.view start.front.attrs.items
         (generic_views.visibility R.view start.front.vis) (alternative 18 (t.Node k.ATrait (words.judged
-        (words.absent ▸ words.absent ▸ words.keyword start.trait_token ▸ data.named start.ident ▸ kept params.now
+        (words.absent ▸ words.absent ▸ words.keyword start.trait_token ▸ fields.named start.ident ▸ kept params.now
         ▸ t.First (kept behind.now)))))) }
 {
     let (eq_token, bounds, conditions, semi_token) = take::four(behind);
@@ -281,7 +281,7 @@ fn trait_of<E: Drop, R: Maker<E>>(
     ensures { IfOk result (λ x. views.item_trait R.view x ≡ items.item_of R.view start.front.attrs.items
         (generic_views.visibility R.view start.front.vis) (items.by_unsafety start.unsafety 18 11 (t.Node k.ATrait
         (words.judged (words.optional items.unsafety start.unsafety ▸ words.optional views.auto start.auto_token
-        ▸ words.keyword start.trait_token ▸ data.named start.ident ▸ kept params.now
+        ▸ words.keyword start.trait_token ▸ fields.named start.ident ▸ kept params.now
         ▸ t.Second (kept behind.now)))))) }
 {
     let (bounds, conditions, enclosed) = take::three(behind);

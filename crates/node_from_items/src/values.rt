@@ -3,7 +3,7 @@
 ghost use Rattle.node_from_items.specs.Values.{const_of, own, static_of};
 ghost use Rattle.node_from_items.specs.Values.{optional_mut, optional_type, optional_value as value_gram};
 ghost use Rattle.node_shapes.specs.Shape.{IsShaped};
-ghost use Rattle.node_views.specs.Data as data;
+ghost use Rattle.node_views.specs.Data as fields;
 ghost use Rattle.node_views.specs.Generics as generics;
 ghost use Rattle.node_views.specs.Items as views;
 ghost use Rattle.node_views.specs.Types.{type_ as type_view};
@@ -48,7 +48,7 @@ pub fn optional_value<E: Drop, R: Reader<E>>(
     requires ready { R.ready below.now }
     requires shaped { IsShaped tree.now value_gram }
     requires fewer { node_count tree.now ≤ R.bound below.now }
-    ensures { IfOk result (λ o. words.optional (data.value R.view) o ≡ kept tree.now) }
+    ensures { IfOk result (λ o. words.optional (fields.value R.view) o ≡ kept tree.now) }
 {
     match take::optional(tree) {
         Some(behind) => {

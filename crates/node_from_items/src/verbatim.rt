@@ -27,7 +27,7 @@ pub enum Judged<'t, 'a> {
 
 /// Of what is judged, and is kept or its tokens are, which it is.
 #[tactic(auto, using(node_take::proofs::Takes::takes, node_take::proofs::Takes::judges))]
-pub fn judged<'t, 'a>(tree: &'t Tree<'a>) -> Judged<'t, 'a>
+pub fn what_is_judged<'t, 'a>(tree: &'t Tree<'a>) -> Judged<'t, 'a>
     requires { ((v : GivenTree → g.Verdict) × (a : g.Gram) × IsShaped tree.now (g.judged v a)) }
     ensures { tree.now ≡ judged_tree result }
 {

@@ -16,9 +16,9 @@ pub kept-inner-requires : goal.kept-inner-requires
 unfolding table
 kept-inner-requires g c = (λ x. is_impl x, impl_form, c.node.ensures.shaped)
 
-pub head-requires-clause-path : goal.head-requires-clause-path
+pub head_of-requires-clause-path : goal.head_of-requires-clause-path
 unfolding table
-head-requires-clause-path g c =
+head_of-requires-clause-path g c =
     let r = c.eight.result in
     let e = c.kept-inner.ensures ∙ ap t.First (c.eight.ensures
     ∙ ap (λ y. t.Pair r.0.now (t.Pair r.1.now (t.Pair r.2.now (t.Pair r.3.now (t.Pair r.4.now (t.Pair r.5.now
