@@ -4,7 +4,7 @@ use Rattle.node_from_items.proofs.Joined.{joined_inner, joined_outer}
 use Rattle.node_from_items.proofs.front.join.Goals as goal
 
 pub returns-clause-outer : goal.returns-clause-outer
-returns-clause-outer c =
+returns-clause-outer g c =
     let xs = c.args.attrs.now.items in
     let ys = c.args.within.items in
     let zs = c.append.new.self.items in
@@ -13,7 +13,7 @@ returns-clause-outer c =
     joined_outer xs ys zs d c.requires.none_in_front
 
 pub returns-clause-inner : goal.returns-clause-inner
-returns-clause-inner c =
+returns-clause-inner g c =
     let xs = c.args.attrs.now.items in
     let ys = c.args.within.items in
     let zs = c.append.new.self.items in
