@@ -13,8 +13,8 @@ module _ {A : Type 0} (puts : A → Puts) (values : List A) (first : List Spanne
   -- one value more has been put
   pub put_more : (i : ℕ) (value : A) (old new : List Spanned) → value ≡ get_or values i value → i < length values
       → puts value old new → GoesOn i old → GoesOn (i + 1) new
-  put_more i value old new is below put goes all h =
-      goes all (subst (λ (vs : List A). PutsAll puts vs old all) (sym (drop_more values i value below))
+  put_more i value old new is below put goes =
+      λ all h. goes all (subst (λ (vs : List A). PutsAll puts vs old all) (sym (drop_more values i value below))
       (new, subst (λ (v : A). puts v old new) is put, h))
 
   -- all have been put

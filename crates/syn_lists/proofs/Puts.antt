@@ -19,8 +19,8 @@ module _ {T P : Type 0} (value : T → Puts) (separator : P → Puts) (vs : List
   pub put_both : (index : ℕ) (v : T) (p : P) (old between new : List Spanned) → index < length vs → index < length ps
       → v ≡ get_or vs index v → p ≡ get_or ps index p → value v old between → separator p between new
       → GoesOn index old → GoesOn (index + 1) new
-  put_both index v p old between new below within is_v is_p put_v put_p goes all h =
-      goes all
+  put_both index v p old between new below within is_v is_p put_v put_p goes =
+      λ all h. goes all
       (subst (λ (ws : List T). PutsList value separator ws (drop index ps) old all) (sym (drop_more vs index v below))
       (subst (λ (qs : List P). PutsList value separator (get_or vs index v ∷ drop (index + 1) vs) qs old all)
       (sym (drop_more ps index p within))
