@@ -1,4 +1,4 @@
-use Rattle.std.proofs.Common.{◌≡◌, List, drop}
+use Rattle.std.proofs.Common.{List, drop}
 use Rattle.proc_macro2.specs.Token.{Spanned}
 use Rattle.syn_error.specs.Front.{Keeps}
 use Rattle.syn_error.specs.Tokens.{PutsAll}
