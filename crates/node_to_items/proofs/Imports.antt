@@ -11,7 +11,7 @@ use Rattle.node_items.specs.declared.import.UseGroup.{UseGroup, out-UseGroup, fo
 use Rattle.node_items.specs.declared.import.UseName.{UseName}
 use Rattle.node_items.specs.declared.import.UsePath.{UsePath, out-UsePath, fold_out-UsePath}
 use Rattle.node_items.specs.declared.import.UseRename.{UseRename}
-use Rattle.node_items.specs.declared.import.UseTree.{UseTree, fold-roll-UseTree, roll-UseTree}
+use Rattle.node_items.specs.declared.import.UseTree.{UseTree, fold-roll-UseTree}
 use Rattle.node_items.specs.declared.import.UseTree.TheOpen as layer
 use Rattle.node_items.specs.declared.import.UseTree.TheVariants as imports
 use Rattle.node_items.specs.declared.import.UseTree.TheVariants.{rolls-Glob, rolls-Group, rolls-Name, rolls-Path}

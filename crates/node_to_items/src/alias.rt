@@ -156,8 +156,9 @@ pub fn item_type<'a, E: ToTree>(
     let definition = definition(arena, &node.eq_token, type_(arena, &node.ty)?)?;
     let conditions = where_of(arena, generics)?;
     let end = type_end(arena, place, has_where(generics), conditions, definition)?;
+    let bounds = no_bounds(arena)?;
     let defined = Defined {
-        bounds: no_bounds(arena)?,
+        bounds,
         end,
         semi_token: &node.semi_token,
     };

@@ -167,8 +167,12 @@ pub fn fields_unnamed<'a, E: ToTree>(
     made::node(arena, Kind::UnnamedFields, group)
 }
 
-// The fields of a variant.
-fn variant_fields<'a, E: ToTree>(
+/// The fields of a variant.
+///
+/// # Errors
+///
+/// Where there is no memory for them.
+pub fn variant_fields<'a, E: ToTree>(
     arena: &'a Arena,
     fields: &'a Fields<E>,
 ) -> Result<Tree<'a>, AllocError>

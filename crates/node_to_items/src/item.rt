@@ -9,6 +9,8 @@ use node_to::attributes::outer_attributes;
 use node_to::row;
 use node_to::step::absent;
 use node_to::to_tree::ToTree;
+use node_to::token::raw;
+use proc_macro2::tree::TokenStream;
 use reader_table::kind::Kind;
 use reader_table::part::Part;
 use reader_tree::arena::Arena;
@@ -48,6 +50,17 @@ pub fn private<'a>(arena: &'a Arena) -> Result<Tree<'a>, AllocError>
     ensures { IfOk result (λ x. x ≡ views.private) }
 {
     made::node(arena, Kind::Visibility, absent(arena)?)
+}
+
+/// An item that is kept as its tokens.
+///
+/// # Errors
+///
+/// Where there is no memory for it.
+pub fn verbatim<'a>(arena: &'a Arena, tokens: &'a TokenStream) -> Result<Tree<'a>, AllocError>
+    ensures { IfOk result (λ x. x ≡ views.verbatim tokens.now) }
+{
+    made::node(arena, Kind::AnItem, raw(arena, tokens)?)
 }
 
 /// `unsafe`, if it is there.

@@ -6,7 +6,7 @@
 //! - `value`: constants and statics; `alias`: types with another name.
 //! - `fields`: fields and variants; `data`: structs, enums and unions.
 //! - `import`: imports.
-//! - `module`: crates and modules; `mac`: calls of macros.
+//! - `module`: crates, modules and files; `mac`: calls of macros.
 //! - `signature`: what functions take and give; `parameter`: their parameters.
 //! - `comma` (private): where the commas of a list stand.
 #![tactic(auto)]

@@ -1,4 +1,4 @@
-//! Crates and modules as trees.
+//! Crates, modules and files as trees.
 
 ghost use Rattle.node_views.specs.Items as views;
 ghost use Rattle.node_words.specs.Words as words;
@@ -110,4 +110,21 @@ pub fn item_mod<'a, E: ToTree>(
     let form = made::node(arena, Kind::AModule, parts)?;
     let item = by_unsafety(arena, &node.unsafety, 12, 9, form)?;
     item_of(arena, &node.attrs, visibility(arena, &node.vis)?, item)
+}
+
+/// A file, of the attributes within it, and its items.
+///
+/// # Errors
+///
+/// Where there is no memory for it.
+pub fn file_of<'a, T: ToTree>(
+    arena: &'a Arena,
+    attributes: Tree<'a>,
+    each: &'a [T],
+) -> Result<Tree<'a>, AllocError>
+    ensures { IfOk result (λ x. x ≡ views.file_of T.tree attributes.entry each.now) }
+{
+    let items = made::node(arena, Kind::Items, turns(arena, each)?)?;
+    let both = made::pair(arena, attributes, items)?;
+    made::node(arena, Kind::AFile, both)
 }

@@ -80,10 +80,11 @@ pub fn foreign_item_static<'a, E: ToTree>(
     ensures { IfOk result (λ x. x ≡ views.foreign_item_static E.tree node.now) }
 {
     let ty = type_(arena, &node.ty)?;
+    let value = absent(arena)?;
     let typed = Typed {
         colon_token: &node.colon_token,
         ty,
-        value: absent(arena)?,
+        value,
         semi_token: &node.semi_token,
     };
     let (word, mutability) = (&node.static_token, &node.mutability);
@@ -110,8 +111,9 @@ pub fn foreign_item_type<'a, E: ToTree>(
     let early = WhereClausePlacement::Early;
     let none = absent(arena)?;
     let end = type_end(arena, early, has_where(generics), conditions, none)?;
+    let bounds = no_bounds(arena)?;
     let defined = Defined {
-        bounds: no_bounds(arena)?,
+        bounds,
         end,
         semi_token: &node.semi_token,
     };

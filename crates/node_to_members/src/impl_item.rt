@@ -129,8 +129,9 @@ pub fn impl_item_type<'a, E: ToTree>(
     let (word, generics) = (&node.type_token, &node.generics);
     let definition = definition(arena, &node.eq_token, type_(arena, &node.ty)?)?;
     let end = made::pair(arena, definition, where_of(arena, generics)?)?;
+    let bounds = no_bounds(arena)?;
     let defined = Defined {
-        bounds: no_bounds(arena)?,
+        bounds,
         end,
         semi_token: &node.semi_token,
     };

@@ -61,10 +61,11 @@ pub fn trait_item_const<'a, E: ToTree>(
     ensures { IfOk result (λ x. x ≡ views.trait_item_const E.tree node.now) }
 {
     let ty = type_(arena, &node.ty)?;
+    let value = optional_value(arena, &node.default)?;
     let typed = Typed {
         colon_token: &node.colon_token,
         ty,
-        value: optional_value(arena, &node.default)?,
+        value,
         semi_token: &node.semi_token,
     };
     let form = const_form(arena, &node.const_token, &node.ident, typed)?;
@@ -133,9 +134,10 @@ pub fn trait_item_type<'a, E: ToTree>(
     let (word, generics) = (&node.type_token, &node.generics);
     let bounds = bounds_colon(arena, &node.colon_token, &node.bounds)?;
     let conditions = where_of(arena, generics)?;
+    let end = made::pair(arena, type_value(arena, node)?, conditions)?;
     let defined = Defined {
         bounds,
-        end: made::pair(arena, type_value(arena, node)?, conditions)?,
+        end,
         semi_token: &node.semi_token,
     };
     let form = alias_form(arena, Place::InTrait, word, &node.ident, generics, defined)?;
