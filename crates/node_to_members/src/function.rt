@@ -9,7 +9,7 @@ use node_expressions::block::Block;
 use node_items::function::ItemFn;
 use node_paths::attribute::Attribute;
 use node_to::to_tree::ToTree;
-use node_to_bodies::block::body;
+use node_to_blocks::block::body;
 use node_to_items::item::item_of;
 use node_to_items::signature::signature;
 use node_to_types::visibility::visibility;
