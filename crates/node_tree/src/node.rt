@@ -1,7 +1,7 @@
 //! What stands in an expression, a type, a pattern or an item.
 
 ghost use Rattle.node_tree.specs.declared.node.Node.TheVariants as nodes;
-ghost use Rattle.std.specs.Prelude.{◌≡◌, MatchOption, MatchResult, ⊥};
+ghost use Rattle.std.specs.Prelude.{◌≡◌, MatchOption, MatchResult};
 
 use crate::expr::Expr;
 use crate::item::Item;
