@@ -29,7 +29,7 @@ use Rattle.node_views.specs.Items.{item_of}
 abbrev pub use_name : Ident → Tree
 use_name i = cond (is_among use_words (ident_text i)) (t.First (name i)) (t.Second (name i))
 
--- what stands behind the `::` of others, or alone
+-- a tree that is no list in braces: *, or what begins with a name
 abbrev pub use_branch : Tree → Tree
 use_branch x = t.Node k.UseTree (t.Second (t.Node k.UseBranch x))
 
