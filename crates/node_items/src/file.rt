@@ -1,8 +1,5 @@
 //! Files.
 
-/// What stands between lines of `---` in front of a file.
-#[derive(Drop)]
-pub struct Frontmatter {
-    /// The text.
-    pub text: String,
-}
+/// What stands between lines of `---` in front of a file. None is read.
+#[derive(Clone, Copy, Default)]
+pub struct Frontmatter {}

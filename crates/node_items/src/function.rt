@@ -1,5 +1,8 @@
 //! Functions, and their parameters.
 
+ghost use Rattle.node_items.specs.declared.function.Safety.TheVariants as safeties;
+ghost use Rattle.std.specs.Prelude.{◌≡◌};
+
 use crate::modifiers::FnModifiers;
 use node_expressions::block::Block;
 use node_generics::Generics;
@@ -64,6 +67,15 @@ pub enum Safety {
     Unsafe(token::Unsafe),
     /// Neither.
     Default,
+}
+
+impl Default for Safety {
+    ghost is_default = { λ x. x ≡ safeties.Default };
+
+    /// Neither word.
+    fn default() -> Safety {
+        Safety::Default
+    }
 }
 
 /// A parameter of a function.

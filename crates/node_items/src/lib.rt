@@ -1,7 +1,7 @@
 //! The structs of items, and what they consist of.
 //!
-//! A type, an expression or a block that is a field of an item or of a field is exactly that. In a signature a type or
-//! a pattern is an `E`, which holds it, and so is an item inside a module.
+//! A type or a block that is a field of an item or of a field is exactly that. An expression is an `E`, which holds it,
+//! and so are a type or a pattern in a signature, and an item inside a module.
 //!
 //! - `convert` (private): structs as the enums that hold them.
 //! - `data`: structs, enums and unions, and their fields.

@@ -14,8 +14,8 @@ use Rattle.syn_grammar.specs.Name.{the_attributes, the_expression}
 use Rattle.syn_grammar.specs.Part.{choice}
 use Rattle.syn_grammar.specs.Tree.{Tree, Pair, First, Second, Called, Node, Whole, Front, Back, Infix}
 
--- Forms without operands: atoms, blocks and what is made of them, a closure whose body is a block, and jumps and a
--- range whose operands are missing.
+-- Forms without operands: atoms, blocks and what is made of them, a closure that says the type of its result, and jumps
+-- and a range whose operands are missing.
 abbrev pub stands_alone : Kind → Bool
 stands_alone ExprLit = true
 stands_alone ExprPath = true
@@ -105,7 +105,7 @@ begin_again_in (Called the_attributes (Node OuterAttributes a))
     begins_attributed x
 begin_again_in x y = false
 
--- A closure whose body is a block says the type of its result.
+-- A form that is a closure with `->` says the type of its result.
 abbrev pub has_type : Kind → Tree → Bool
 has_type ExprTypedClosure (Pair h (Pair (Node k (Second x)) b)) = false
 has_type k y = true

@@ -51,7 +51,7 @@ abbrev mutual
 
   -- Each form is of a kind that has the operands that stand there, and its own part has the shape of the kind's
   -- entry; a closure with a type has one; what has attributes has all of them at once; and what stands left of a form
-  -- may stand there.
+  -- is one that may be left of it.
   pub AreForms : Tree → Type 0
   AreForms (Alone k y) = (stands_alone k ≡ true) × IsShaped y (table k) × (has_type k y ≡ true)
   AreForms (Front k y x) =

@@ -7,8 +7,8 @@ use Rattle.proc_macro2.specs.Token.{Token, Opens, Closes, Ident, Literal, Punct}
 use Rattle.proc_macro2.specs.declared.delimiter.Delimiter.{Delimiter}
 
 -- Inside groups with these delimiters, the innermost first, they are the rest of a stream: each of these groups, and
--- each that opens among them, is closed by a mark of its own; a mark is one of the 22, and no literal begins with a
--- minus.
+-- each that opens among them, is closed by a closing delimiter of its own. A punctuation has one of the 22 characters,
+-- and no literal begins with a minus.
 abbrev pub stand : List Delimiter → List Token → Bool
 stand ds (Opens d ∷ ts) = stand (d ∷ ds) ts
 stand [] (Closes d ∷ ts) = false

@@ -3,7 +3,7 @@ use Rattle.std.specs.Prelude.{ℕ, zero, suc, Bool, true, false, not}
 use Rattle.syn_grammar.specs.Gram.{Gram, seq, alt, judged}
 use Rattle.syn_grammar.specs.Tree.{Tree, First, Second}
 
--- it has so many parts and one more
+-- it has at least so many parts and one more
 abbrev pub is_seq : ℕ → Gram → Bool
 is_seq zero a = true
 is_seq (suc n) (seq a b) = is_seq n b

@@ -1,5 +1,6 @@
--- The words in which it is said what a node is as a tree of the grammar: as a syntax tree holds it, with each last mark
--- alone, each kind in the style in which a type is written, and nothing of where it stood.
+-- The words in which it is said what a node is as a tree of the grammar: as a syntax tree holds it, with each last
+-- mark alone, each kind in the style in which a type is written. Of where it stood only the kinds of blocks are left
+-- that its entry is for.
 use Rattle.std.specs.Prelude.{ℕ, Bool, true, false, List, [], ◌∷◌, Option, Some, None, cond, codes}
 use Prim.Native.String.{String}
 use Rattle.rust_leaf.specs.Leaf.{ident_text}

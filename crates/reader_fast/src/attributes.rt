@@ -85,7 +85,8 @@ fn is_empty(at: &[Entry<'_>]) -> bool
 // The group that is all there is, if it is one that is seen.
 fn only_group<'a>(at: &'a [Entry<'a>]) -> Option<Group<'a>>
     requires { IsTrue (is_whole at.now) }
-    ensures { IfSome result (λ o. IsBehindPath (tokens at.now) (t.First (delimited o.delimiter (tokens o.inside.now)))) }
+    ensures { IfSome result (λ o. IsBehindPath (tokens at.now)
+        (t.First (delimited o.delimiter (tokens o.inside.now)))) }
 {
     let group = enter(at)?;
     if is_seen(group.delimiter) && is_empty(group.behind) {

@@ -616,3 +616,11 @@ not_none ts h = then_none (marks "!" ts) _ (no_sign 33 [] ts h)
 -- the look by its name
 pub so : (j k : Composite) (ts : List Token) → j ≡ k → composite_of k ts ≡ None → composite_of j ts ≡ None
 so j k ts e h = ap (λ x. composite_of x ts) e ∙ h
+
+pub ruleset one_behind_laws = (word_none, another_word, word_behind)
+
+pub ruleset begins_call_laws = (call_none_first, call_goes, call_ends)
+
+pub ruleset goes_on_laws = (goes_on_group, goes_on_path, goes_on_dots)
+
+pub ruleset first_alone_laws = (let_alone, fn_alone, so_alone)

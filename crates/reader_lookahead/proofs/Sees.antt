@@ -98,3 +98,9 @@ pointer ts b h = h ∙ step ts
 -- where it sees the first word alone
 pub alone : (l : Look) (ts us : List Token) → l ts ≡ Some us → true ≡ sees l ts
 alone l ts us h = ap seen (sym h)
+
+pub ruleset is_repeated_laws = (then_none, then_so)
+
+pub ruleset is_less_laws = (not_behind, behind_none, behind_so)
+
+pub ruleset is_bound_laws = (either, neither)

@@ -58,7 +58,7 @@ fn first_form(cases: &[Case], at: &[Entry<'_>]) -> Option<Kind>
 }
 
 // Whether brackets open there in which a `;` stands that is in no group.
-#[tactic(auto, using(crate::proofs::Sees::then_none, crate::proofs::Sees::then_so, crate::proofs::Steps::there, crate::proofs::Steps::not_there))]
+#[tactic(auto, using(crate::proofs::Sees::is_repeated_laws, crate::proofs::Steps::there_laws))]
 fn is_repeated(at: &[Entry<'_>]) -> bool
     requires { is_nested at.now ≡ true }
     ensures { result ≡ sees repeat_stands (tokens at.now) }

@@ -102,7 +102,7 @@ fn one_of(keywords: &[Keyword], at: &[Entry<'_>]) -> bool
 
 // Whether that keyword stands first, and one of these behind it.
 #[inline(always)]
-#[tactic(auto, using(crate::proofs::Glances::word_none, crate::proofs::Glances::another_word, crate::proofs::Glances::word_behind))]
+#[tactic(auto, using(crate::proofs::Glances::one_behind_laws))]
 fn one_behind(keyword: Keyword, keywords: &[Keyword], at: &[Entry<'_>]) -> bool
     ensures { result ≡ sees (the_word (keyword_text keyword) then one_of (texts keywords.now)) (tokens at.now) }
 {
@@ -146,7 +146,7 @@ fn begins_item(at: &[Entry<'_>]) -> bool
 }
 
 // Whether a macro's path may begin there, by its first name and the mark behind that.
-#[tactic(auto, using(crate::proofs::Glances::call_none_first, crate::proofs::Glances::call_goes, crate::proofs::Glances::call_ends))]
+#[tactic(auto, using(crate::proofs::Glances::begins_call_laws))]
 fn begins_call(at: &[Entry<'_>]) -> bool
     ensures { result ≡ sees call_begins (tokens at.now) }
 {
@@ -187,7 +187,7 @@ fn is_bool(at: &[Entry<'_>]) -> bool
 }
 
 // Whether a name in a pattern may go on there.
-#[tactic(auto, using(crate::proofs::Glances::goes_on_group, crate::proofs::Glances::goes_on_path, crate::proofs::Glances::goes_on_dots))]
+#[tactic(auto, using(crate::proofs::Glances::goes_on_laws))]
 fn goes_on(at: &[Entry<'_>]) -> bool
     requires { is_nested at.now ≡ true }
     ensures { result ≡ sees name_goes_on (tokens at.now) }
@@ -211,7 +211,7 @@ fn lone_name<'a>(at: &'a [Entry<'a>]) -> Option<&'a [Entry<'a>]>
 
 /// What is left behind the first word, where it says, perhaps with the token behind it, that the look sees just that
 /// word.
-#[tactic(auto, using(crate::proofs::Glances::let_alone, crate::proofs::Glances::fn_alone, crate::proofs::Glances::so_alone))]
+#[tactic(auto, using(crate::proofs::Glances::first_alone_laws))]
 pub fn first_alone<'a>(composite: Composite, at: &'a [Entry<'a>]) -> Option<&'a [Entry<'a>]>
     requires { is_nested at.now ≡ true }
     ensures some { IfSome result (λ es. composite_of composite (tokens at.now) ≡ Some (tokens es.now)) }

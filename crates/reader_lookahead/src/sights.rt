@@ -63,7 +63,7 @@ fn parts(count: usize, sights: &[Sight]) -> Option<(&[Sight], &[Sight])>
 
 // What is left behind the steps, as often as they are seen one after the other.
 #[cycle(see)]
-#[tactic(auto, using(crate::proofs::Steps::turns_begin, crate::proofs::Steps::turn_more, crate::proofs::Steps::turn_none, crate::proofs::Steps::turns_end))]
+#[tactic(auto, using(crate::proofs::Steps::again_laws))]
 fn again<'a>(sights: &[Sight], at: &'a [Entry<'a>]) -> Option<&'a [Entry<'a>]>
     requires { is_nested at.now ≡ true }
     ensures after { after (λ es. es.now) result ≡ repeatedly (sights_of sights.now) (tokens at.now) }
@@ -83,7 +83,7 @@ fn again<'a>(sights: &[Sight], at: &'a [Entry<'a>]) -> Option<&'a [Entry<'a>]>
 
 /// What is left behind what the steps see, if they see it.
 #[cycle(see)]
-#[tactic(auto, using(crate::proofs::Steps::nothing, crate::proofs::Steps::word, crate::proofs::Steps::quoted, crate::proofs::Steps::past_first, crate::proofs::Steps::past_literals, crate::proofs::Steps::mark, crate::proofs::Steps::lifetime, crate::proofs::Steps::opens, crate::proofs::Steps::opening, crate::proofs::Steps::closes, crate::proofs::Steps::group, crate::proofs::Steps::end, crate::proofs::Steps::nowhere_seen, crate::proofs::Steps::then_lacks, crate::proofs::Steps::then_fails, crate::proofs::Steps::then_goes, crate::proofs::Steps::or_lacks, crate::proofs::Steps::one, crate::proofs::Steps::other, crate::proofs::Steps::maybe, crate::proofs::Steps::no_here, crate::proofs::Steps::no_such, crate::proofs::Steps::repeatedly))]
+#[tactic(auto, using(crate::proofs::Steps::see_laws))]
 pub fn see<'a>(sights: &[Sight], at: &'a [Entry<'a>]) -> Option<&'a [Entry<'a>]>
     requires { is_nested at.now ≡ true }
     ensures after { after (λ es. es.now) result ≡ sights_of sights.now (tokens at.now) }

@@ -35,7 +35,7 @@ fn is_turbofish(at: &[Entry<'_>]) -> bool
 }
 
 // Whether a `<` that begins no `<=` stands there.
-#[tactic(auto, using(crate::proofs::Sees::not_behind, crate::proofs::Sees::behind_none, crate::proofs::Sees::behind_so))]
+#[tactic(auto, using(crate::proofs::Sees::is_less_laws))]
 fn is_less(at: &[Entry<'_>]) -> bool
     ensures { result ≡ sees (no (marks "<=") then marks "<") (tokens at.now) }
 {
@@ -51,7 +51,7 @@ fn are_arguments(at: &[Entry<'_>]) -> bool
 }
 
 // Whether a bound stands there.
-#[tactic(auto, using(crate::proofs::Sees::either, crate::proofs::Sees::neither, crate::proofs::Steps::there, crate::proofs::Steps::not_there))]
+#[tactic(auto, using(crate::proofs::Sees::is_bound_laws, crate::proofs::Steps::there_laws))]
 fn is_bound(at: &[Entry<'_>]) -> bool
     ensures { result ≡ sees bound_stands (tokens at.now) }
 {

@@ -373,3 +373,15 @@ pub turn_end : (b n : ℕ) (rest ds : List ℕ) → rest ≡ [] → Left b n res
 turn_end b n rest ds e i =
     let f : before_dot rest ≡ [] = ap before_dot e in
     (sym i.0 ∙ ap (number_behind b n) f, (f, i.1))
+
+pub ruleset number_laws = (turn_line, turn_digit, turn_wrong, turn_dot, turn_end)
+
+pub ruleset based_laws = (based_end, based_dot, based_hex, based_octal, based_binary, based_plain)
+
+pub ruleset integer_laws = (integer_end, integer_dot, integer_zero, integer_digit, integer_other)
+
+pub ruleset are_behind_laws = (none_behind, lone_dot, one_wrong, one_more)
+
+pub ruleset are_indices_laws = (first_wrong, first_index)
+
+pub ruleset ends_in_dot_laws = (last_begun, last_next, last_ended)

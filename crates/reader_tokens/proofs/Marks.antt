@@ -95,3 +95,7 @@ pub is_lifetime : (d : ℕ) (ts us vs : List Token) (cs : List ℕ) (b : Bool) �
 is_lifetime d ts us vs cs b e h f g =
     ap (λ x. cond x (Some vs) None) (sym (sym f ∙ g)) ∙ ap (λ x. a_lifetime (Punct d Joint ∷ x)) (sym h)
     ∙ ap a_lifetime (sym e)
+
+pub ruleset past_laws = (none_marked, other_mark, last_mark, joint_mark, lone_mark)
+
+pub ruleset lifetime_laws = (no_lifetime, no_apostrophe, lone_apostrophe, no_word_behind, is_lifetime)

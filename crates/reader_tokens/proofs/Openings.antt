@@ -41,3 +41,5 @@ none_opening (Punct e spacing ∷ ts) h = refl
 
 pub is_opening : (e : Delimiter) (ts us : List Token) → ts ≡ Opens e ∷ us → Some us ≡ opening ts
 is_opening e ts us h = ap opening (sym h)
+
+pub ruleset whole_laws = (no_group, group_so)

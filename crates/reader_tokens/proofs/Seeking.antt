@@ -106,3 +106,7 @@ none_here c ts h = sym (none_marked c [] ts h)
 pub mark_here : (c d : ℕ) (spacing : Spacing) (ts us : List Token) → ts ≡ token.Punct d spacing ∷ us
     → cond (d == c) (Some us) None ≡ past_marks c [] ts
 mark_here c d spacing ts us e = ap (past_marks c []) (sym e)
+
+pub ruleset passes_laws = (seeks_group, seeks_ident, seeks_literal, seeks_other, ends_here, ends_there)
+
+pub ruleset past_first_laws = (tail_nested, goes_on, ends_at, further)

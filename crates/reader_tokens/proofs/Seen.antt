@@ -69,3 +69,5 @@ joint_mark c d k cs ks js ts us b r n l e f h i =
 pub lone_mark : (c d k : ℕ) (cs ks js : List ℕ) (ts us : List Token) → cs ≡ c ∷ ks → ks ≡ k ∷ js
     → ts ≡ Punct d Alone ∷ us → false ≡ sees (the_mark cs) ts
 lone_mark c d k cs ks js ts us n l e = by_text c cs ks ts false n (ap seen (marks.lone_mark c d k ks js ts us l e))
+
+pub ruleset is_sign_laws = (no_mark, no_text, another_mark, last_mark, joint_mark, lone_mark)

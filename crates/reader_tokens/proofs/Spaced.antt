@@ -104,3 +104,7 @@ pub sign_spaced : (text : List ℕ) (c : ℕ) (cs : List ℕ) (spacing : Spacing
     → interp call (punct text) ts ≡ Got (mark_of text spacing) us
 sign_spaced text c cs spacing call ts us e h =
     ap (λ x. interp call (punct x) ts) e ∙ h ∙ ap (λ x. Got (mark_of x spacing) us) (sym e)
+
+pub ruleset spaced_laws = (none_spaced, other_spaced, joint_spaced, joint_refused, lone_spaced)
+
+pub ruleset marks_laws = (empty_sign, no_sign, sign_refused, sign_spaced)

@@ -113,7 +113,7 @@ pub fn opens_first(delimiter: Delimiter, at: &[Entry<'_>]) -> bool
 }
 
 /// What is left behind a whole group that stands first.
-#[tactic(auto, using(crate::proofs::Openings::no_group, crate::proofs::Openings::group_so, crate::proofs::Nested::nested_behind))]
+#[tactic(auto, using(crate::proofs::Openings::whole_laws, crate::proofs::Nested::nested_behind))]
 pub fn whole<'a, 'e>(delimiter: Delimiter, at: &'a [Entry<'e>]) -> Option<&'a [Entry<'e>]>
     requires { is_nested at.now ≡ true }
     ensures after { after (λ es. es.now) result ≡ a_group delimiter (tokens at.now) }
@@ -171,7 +171,7 @@ fn that_mark<'a, 'e>(character: u32, at: &'a [Entry<'e>]) -> Option<&'a [Entry<'
 }
 
 // How many entries the search for such a mark passes at once, one or those of a whole group: none where it ends.
-#[tactic(auto, using(crate::proofs::Seeking::seeks_group, crate::proofs::Seeking::seeks_ident, crate::proofs::Seeking::seeks_literal, crate::proofs::Seeking::seeks_other, crate::proofs::Seeking::ends_here, crate::proofs::Seeking::ends_there, crate::proofs::Groups::opened_within))]
+#[tactic(auto, using(crate::proofs::Seeking::passes_laws, crate::proofs::Groups::opened_within))]
 fn passes(character: u32, at: &[Entry]) -> Option<usize>
     requires { is_nested at.now ≡ true }
     ensures on { IfSome result (λ n. past_first character 0 (tokens at.now)
@@ -198,7 +198,7 @@ fn passes(character: u32, at: &[Entry]) -> Option<usize>
 
 /// What is left behind the first mark of that character that stands in no group: none where a group closes before it,
 /// or it stands nowhere.
-#[tactic(auto, using(crate::proofs::Seeking::tail_nested, crate::proofs::Seeking::goes_on, crate::proofs::Seeking::ends_at, crate::proofs::Seeking::further))]
+#[tactic(auto, using(crate::proofs::Seeking::past_first_laws))]
 pub fn past_first<'a, 'e>(character: u32, at: &'a [Entry<'e>]) -> Option<&'a [Entry<'e>]>
     requires { is_nested at.now ≡ true }
     ensures after { after (λ es. es.now) result ≡ past_first character 0 (tokens at.now) }

@@ -50,7 +50,7 @@ fn is_mark(punct: &Punct, character: u8) -> bool
 }
 
 // What is left behind marks of which all but the last are joint.
-#[tactic(auto, using(crate::proofs::Marks::none_marked, crate::proofs::Marks::other_mark, crate::proofs::Marks::last_mark, crate::proofs::Marks::joint_mark, crate::proofs::Marks::lone_mark))]
+#[tactic(auto, using(crate::proofs::Marks::past_laws))]
 fn past<'a, 'e>(first: u8, others: &[u8], at: &'a [Entry<'e>]) -> Option<&'a [Entry<'e>]>
     ensures after { after (λ es. es.now) result ≡ past_marks first others.now (tokens at.now) }
     ensures nested { is_nested at.now ≡ true → IfSome result (λ es. is_nested es.now ≡ true) }
@@ -95,7 +95,7 @@ fn are_marks(first: u8, others: &[u8], at: &[Entry<'_>]) -> bool
 
 /// Whether a punctuation stands first. What follows its last mark isn't looked at.
 #[inline(always)]
-#[tactic(auto, using(crate::proofs::Seen::no_mark, crate::proofs::Seen::no_text, crate::proofs::Seen::another_mark, crate::proofs::Seen::last_mark, crate::proofs::Seen::joint_mark, crate::proofs::Seen::lone_mark))]
+#[tactic(auto, using(crate::proofs::Seen::is_sign_laws))]
 pub fn is_sign(sign: Sign, at: &[Entry<'_>]) -> bool
     ensures { result ≡ sees (the_mark (sign_text sign)) (tokens at.now) }
 {
@@ -118,7 +118,7 @@ pub fn is_sign(sign: Sign, at: &[Entry<'_>]) -> bool
 }
 
 // How the last of marks of which all but it are joint is spaced, and what is left behind it.
-#[tactic(auto, using(crate::proofs::Spaced::none_spaced, crate::proofs::Spaced::other_spaced, crate::proofs::Spaced::joint_spaced, crate::proofs::Spaced::joint_refused, crate::proofs::Spaced::lone_spaced))]
+#[tactic(auto, using(crate::proofs::Spaced::spaced_laws))]
 fn spaced<'a, 'e>(
     first: u8,
     others: &[u8],
@@ -147,7 +147,7 @@ fn spaced<'a, 'e>(
 
 /// A punctuation that stands first: how its last mark is spaced, where its first one stands, and what is left behind
 /// it. None where it doesn't stand there.
-#[tactic(auto, using(crate::proofs::Spaced::empty_sign, crate::proofs::Spaced::no_sign, crate::proofs::Spaced::sign_refused, crate::proofs::Spaced::sign_spaced))]
+#[tactic(auto, using(crate::proofs::Spaced::marks_laws))]
 pub fn marks<'a>(sign: Sign, at: &'a [Entry<'a>]) -> Option<(Spacing, Span, &'a [Entry<'a>])>
     requires { IsTrue (is_whole at.now) }
     ensures mark { MatchOption result
@@ -182,7 +182,7 @@ pub fn first_ident<'a, 'e>(at: &'a [Entry<'e>]) -> Option<(&'e Ident, &'a [Entry
 }
 
 /// What is left behind a lifetime that stands first: an apostrophe, joint, and a word.
-#[tactic(auto, using(crate::proofs::Marks::no_lifetime, crate::proofs::Marks::no_apostrophe, crate::proofs::Marks::lone_apostrophe, crate::proofs::Marks::no_word_behind, crate::proofs::Marks::is_lifetime))]
+#[tactic(auto, using(crate::proofs::Marks::lifetime_laws))]
 pub fn lifetime<'a, 'e>(at: &'a [Entry<'e>]) -> Option<&'a [Entry<'e>]>
     ensures after { after (λ es. es.now) result ≡ a_lifetime (tokens at.now) }
     ensures nested { is_nested at.now ≡ true → IfSome result (λ es. is_nested es.now ≡ true) }

@@ -75,7 +75,7 @@ fn with_digit(number: u32, base: u32, character: char) -> Option<u32>
 
 // The number that digits of a base write, underscores among them, up to a dot, and what is left from there: none where
 // one is no digit, or the number is too large.
-#[tactic(auto, using(crate::proofs::Dots::turn_line, crate::proofs::Dots::turn_digit, crate::proofs::Dots::turn_wrong, crate::proofs::Dots::turn_dot, crate::proofs::Dots::turn_end))]
+#[tactic(auto, using(crate::proofs::Dots::number_laws))]
 fn number(digits: &str, base: u32) -> Option<(u32, &str)>
     requires { 1 ≤ base }
     ensures reads { Reads (number_behind base 0 (before_dot (chars digits.now))) (chars digits.now)
@@ -97,7 +97,7 @@ fn number(digits: &str, base: u32) -> Option<(u32, &str)>
 }
 
 // The same behind the digit 0.
-#[tactic(auto, using(crate::proofs::Dots::based_end, crate::proofs::Dots::based_dot, crate::proofs::Dots::based_hex, crate::proofs::Dots::based_octal, crate::proofs::Dots::based_binary, crate::proofs::Dots::based_plain))]
+#[tactic(auto, using(crate::proofs::Dots::based_laws))]
 fn based(rest: &str) -> Option<(u32, &str)>
     ensures reads { Reads (based_number (before_dot (chars rest.now))) (chars rest.now)
         (option_map (λ r. (r.0, chars r.1.now)) result) }
@@ -117,7 +117,7 @@ fn based(rest: &str) -> Option<(u32, &str)>
 
 /// The number that an unsuffixed integer below 2 ^ 32 writes, up to a dot, and what is left from there: none where the
 /// text up to there is no such integer.
-#[tactic(auto, using(crate::proofs::Dots::integer_end, crate::proofs::Dots::integer_dot, crate::proofs::Dots::integer_zero, crate::proofs::Dots::integer_digit, crate::proofs::Dots::integer_other))]
+#[tactic(auto, using(crate::proofs::Dots::integer_laws))]
 pub fn integer(text: &str) -> Option<(u32, &str)>
     ensures reads { Reads (integer (before_dot (chars text.now))) (chars text.now)
         (option_map (λ r. (r.0, chars r.1.now)) result) }
@@ -150,7 +150,7 @@ pub(crate) fn is_index(text: &str) -> bool
 }
 
 // Whether the texts behind dots are indices each, but the last one may be empty; a dot stands first, if one does.
-#[tactic(auto, using(crate::proofs::Dots::none_behind, crate::proofs::Dots::lone_dot, crate::proofs::Dots::one_wrong, crate::proofs::Dots::one_more))]
+#[tactic(auto, using(crate::proofs::Dots::are_behind_laws))]
 fn are_behind(left: &str) -> bool
     requires { before_dot (chars left.now) ≡ [] }
     ensures { result ≡ indices_to_dot (behind_dots (chars left.now)) }
@@ -168,7 +168,7 @@ fn are_behind(left: &str) -> bool
 }
 
 /// Whether it is indices with dots between them, and perhaps one behind them.
-#[tactic(auto, unfolding(syn_grammar::specs::Words::are_indices), using(crate::proofs::Dots::first_wrong, crate::proofs::Dots::first_index))]
+#[tactic(auto, unfolding(syn_grammar::specs::Words::are_indices), using(crate::proofs::Dots::are_indices_laws))]
 pub(crate) fn are_indices(text: &str) -> bool
     ensures { result ≡ are_indices (chars text.now) }
 {
@@ -179,7 +179,7 @@ pub(crate) fn are_indices(text: &str) -> bool
 }
 
 /// Whether it ends in a dot.
-#[tactic(auto, unfolding(syn_grammar::specs::Words::ends_in_dot), using(crate::proofs::Dots::last_begun, crate::proofs::Dots::last_next, crate::proofs::Dots::last_ended))]
+#[tactic(auto, unfolding(syn_grammar::specs::Words::ends_in_dot), using(crate::proofs::Dots::ends_in_dot_laws))]
 pub(crate) fn ends_in_dot(text: &str) -> bool
     ensures { result ≡ ends_in_dot (chars text.now) }
 {

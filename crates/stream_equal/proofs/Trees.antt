@@ -93,7 +93,8 @@ first_tree (tree.Literal l) (tree.Literal k) ts us m n e = (cc, cc)
 -- trees, one of them and those behind it
 pub parted : (ts : List TokenTree) (n : ℕ) (z : TokenTree) → n < length ts
     → plain (trees_tokens ts)
-    ≡ plain (trees_tokens (take n ts)) ++ (plain (tree_tokens (get_or ts n z)) ++ plain (trees_tokens (drop (suc n) ts)))
+    ≡ plain (trees_tokens (take n ts)) ++ (plain (tree_tokens (get_or ts n z))
+        ++ plain (trees_tokens (drop (suc n) ts)))
 parted [] n z l = absurd (omega arith)
 parted (t ∷ ts) zero z l = map-append (λ (s : Spanned). s.token) (tree_tokens t) (trees_tokens ts)
 parted (t ∷ ts) (suc n) z l =
@@ -146,7 +147,8 @@ part_length ts n x l e =
 -- where trees and others begin with the same tokens, and have the same ones, those that are next have too
 pub next_same : (a b : List TokenTree) (n : ℕ) (x y : TokenTree) → n < length a → n < length b → x ≡ get_or a n x
     → y ≡ get_or b n y → IsMatchedTree x → IsMatchedTree y
-    → plain (trees_tokens (take n a)) ≡ plain (trees_tokens (take n b)) → plain (trees_tokens a) ≡ plain (trees_tokens b)
+    → plain (trees_tokens (take n a)) ≡ plain (trees_tokens (take n b))
+    → plain (trees_tokens a) ≡ plain (trees_tokens b)
     → plain (tree_tokens x) ≡ plain (tree_tokens y)
 next_same a b n x y l m p q s t front e =
     let after_a : List Token = plain (trees_tokens (drop (suc n) a)) in
@@ -162,7 +164,8 @@ next_same a b n x y l m p q s t front e =
 -- where all of the ones have been passed, and the others begin with the same tokens, they are as many exactly if they
 -- have the same tokens
 all_passed : (a b : List TokenTree) (n : ℕ) → n ≡ length a → n ≤ length b
-    → plain (trees_tokens (take n a)) ≡ plain (trees_tokens (take n b)) → plain (trees_tokens a) ≡ plain (trees_tokens b)
+    → plain (trees_tokens (take n a)) ≡ plain (trees_tokens (take n b))
+    → plain (trees_tokens a) ≡ plain (trees_tokens b)
     → length b ≡ n
 all_passed a b n l m front e =
     let taken : plain (trees_tokens (take n b)) ≡ plain (trees_tokens a) =
@@ -178,15 +181,18 @@ all_passed a b n l m front e =
     omega (arith, no_tokens (drop n b) none, length-drop n b, m)
 
 pub as_many : (a b : List TokenTree) (n : ℕ) → n ≤ length a → n ≤ length b → (n ≡ length a) ⊎ (n ≡ length b)
-    → plain (trees_tokens (take n a)) ≡ plain (trees_tokens (take n b)) → plain (trees_tokens a) ≡ plain (trees_tokens b)
+    → plain (trees_tokens (take n a)) ≡ plain (trees_tokens (take n b))
+    → plain (trees_tokens a) ≡ plain (trees_tokens b)
     → length a ≡ length b
 as_many a b n l m (inl p) front e = sym p ∙ sym (all_passed a b n p m front e)
 as_many a b n l m (inr p) front e = all_passed b a n p l (sym front) (sym e) ∙ p
 
 pub same_taken : (a b : List TokenTree) (n : ℕ) → length a ≤ n → length b ≤ n
-    → plain (trees_tokens (take n a)) ≡ plain (trees_tokens (take n b)) → plain (trees_tokens a) ≡ plain (trees_tokens b)
+    → plain (trees_tokens (take n a)) ≡ plain (trees_tokens (take n b))
+    → plain (trees_tokens a) ≡ plain (trees_tokens b)
 same_taken a b n l m front =
-    ap (λ ts. plain (trees_tokens ts)) (sym (take_all n a l)) ∙ front ∙ ap (λ ts. plain (trees_tokens ts)) (take_all n b m)
+    ap (λ ts. plain (trees_tokens ts)) (sym (take_all n a l)) ∙ front
+    ∙ ap (λ ts. plain (trees_tokens ts)) (take_all n b m)
 
 pub ended : (n l m : ℕ) → (n ≡ l) ⊎ (n ≡ m) → l ≡ m → (l ≤ n) × (m ≤ n)
 ended n l m (inl p) e = (omega (arith, p), omega (arith, p, e))

@@ -128,7 +128,8 @@ fn as_typed<'t, 'a>(attrs: &'t Tree<'a>, tree: &'t Tree<'a>) -> Option<FnArg<'t,
 
 // What a parameter is behind its attributes.
 fn as_fn_arg<'t, 'a>(attrs: &'t Tree<'a>, tree: &'t Tree<'a>) -> Option<FnArg<'t, 'a>>
-    ensures tree_is { MatchOption result ((s u v w : List Token → Bool) (a b i j : g.Gram) (c d e : ℕ) (cs ds es : List ℕ)
+    ensures tree_is { MatchOption result ((s u v w : List Token → Bool) (a b i j : g.Gram) (c d e : ℕ)
+        (cs ds es : List ℕ)
         → IsShaped tree.now (g.alt s (g.called n.the_receiver i) (g.alt u (g.called n.the_dots (g.mark e es)) (g.alt v
         (g.called n.the_unnamed j) (g.seq (g.called n.the_pattern a) (g.seq (g.mark c cs) (g.alt w (g.called n.the_dots
         (g.mark d ds)) (g.called n.the_type b))))))) → ⊥) (λ x. tree.now ≡ fn_arg_tree x) }

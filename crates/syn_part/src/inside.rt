@@ -198,7 +198,8 @@ pub fn six<'t, 'a>(
         &'t Tree<'a>,
     ),
 >
-    ensures { MatchOption result ((a b c d e f : g.Gram) → table (kind_of kind) ≡ g.seq a (g.seq b (g.seq c (g.seq d (g.seq e f))))
+    ensures { MatchOption result ((a b c d e f : g.Gram)
+        → table (kind_of kind) ≡ g.seq a (g.seq b (g.seq c (g.seq d (g.seq e f))))
         → IsShaped tree.now (g.ref (kind_of kind)) → ⊥)
         (λ p. tree.now ≡ t.Node (kind_of kind)
         (t.Pair p.0.now (t.Pair p.1.now (t.Pair p.2.now (t.Pair p.3.now (t.Pair p.4.now p.5.now)))))) }

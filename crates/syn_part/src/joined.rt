@@ -96,8 +96,10 @@ pub fn seven<A: Copy, B: Copy, C: Copy, D: Copy, E: Copy, F: Copy, G: Copy>(
     f: Option<F>,
     g: Option<G>,
 ) -> Option<(A, B, C, D, E, F, G)>
-    ensures { MatchOption result ((a ≡ None) ⊎ (b ≡ None) ⊎ (c ≡ None) ⊎ (d ≡ None) ⊎ (e ≡ None) ⊎ (f ≡ None) ⊎ (g ≡ None))
-        (λ p. (a ≡ Some p.0) × (b ≡ Some p.1) × (c ≡ Some p.2) × (d ≡ Some p.3) × (e ≡ Some p.4) × (f ≡ Some p.5) × (g ≡ Some p.6)) }
+    ensures { MatchOption result ((a ≡ None) ⊎ (b ≡ None) ⊎ (c ≡ None) ⊎ (d ≡ None) ⊎ (e ≡ None) ⊎ (f ≡ None)
+        ⊎ (g ≡ None))
+        (λ p. (a ≡ Some p.0) × (b ≡ Some p.1) × (c ≡ Some p.2) × (d ≡ Some p.3) × (e ≡ Some p.4) × (f ≡ Some p.5)
+        × (g ≡ Some p.6)) }
 {
     match (a, b, c, d, e, f, g) {
         (

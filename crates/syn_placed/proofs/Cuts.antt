@@ -1,6 +1,7 @@
 -- Entries that begin with a tree's tokens.
 use Rattle.std.proofs.Common.{◌≡◌, ℕ, List, [], ◌∷◌, ◌++◌, refl, sym, ap, ◌∙◌, length, take, drop, arith, suc}
-use Rattle.std.proofs.lemmas.List.{take-map, drop-map, take_at, drop_at, take-append-drop, map-append, append_cancel_left, length-append, length-map}
+use Rattle.std.proofs.lemmas.List.{take-map, drop-map, take_at, drop_at}
+use Rattle.std.proofs.lemmas.List.{take-append-drop, map-append, append_cancel_left, length-append, length-map}
 use Rattle.proc_macro2.specs.Token.{Token}
 use Rattle.syn_buffer.specs.Entries.{entry_token}
 use Rattle.syn_buffer.specs.declared.entry.Entry.{Entry}

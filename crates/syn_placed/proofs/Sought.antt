@@ -50,7 +50,8 @@ begins_within : (d : Delimiter) (x : Tree) (es : List Entry) (rest : List Token)
 begins_within d x [] rest h = cc
 begins_within d x (e ∷ es) rest h = record { rest = Closes d ∷ rest; is = (opened d x e es rest h).1 }
 
-pub begins_inside : (w x : Tree) (d : Delimiter) (es : List Entry) → w ≡ t.Group d x → Begins w es → Begins x (drop 1 es)
+pub begins_inside : (w x : Tree) (d : Delimiter) (es : List Entry) → w ≡ t.Group d x
+    → Begins w es → Begins x (drop 1 es)
 begins_inside w x d es e b = begins_within d x es b.rest (inside_of w x d es b.rest e b.is)
 
 pub past_same : (w x : Tree) (es left : List Entry) → flat w ≡ flat x → IsPast x es left → IsPast w es left
@@ -88,7 +89,8 @@ closed d x e es front (c ∷ mid) rest h spelled is =
     record {
       front = e ∷ (front ++ c ∷ []);
       is_front = ap (λ k. k ∷ tokens (front ++ c ∷ [])) b.0
-          ∙ ap (λ ts. Opens d ∷ ts) (both_past front (c ∷ []) (flat x) (Closes d ∷ []) spelled (ap (λ k. k ∷ []) close));
+          ∙ ap (λ ts. Opens d ∷ ts) (both_past front (c ∷ []) (flat x) (Closes d ∷ [])
+              spelled (ap (λ k. k ∷ []) close));
       is = ap (λ us. e ∷ us) (append_assoc front (c ∷ []) mid ∙ is);
     }
 

@@ -61,7 +61,8 @@ impl<'t, 'a> Placed<'t, 'a> {
 
     /// Where its last token stands, if it has one. A mark that closes a group has the span of all of that.
     pub fn last_span(&self) -> Option<Span>
-        ensures span { result ≡ option_map entry_span (slice_get self.now.entries.now (length self.now.entries.now - 1)) }
+        ensures span { result
+            ≡ option_map entry_span (slice_get self.now.entries.now (length self.now.entries.now - 1)) }
         ensures none { result ≡ None ↔ flat self.now.tree.now ≡ [] }
     {
         self.entries.last().map(|entry| entry.span())

@@ -1,5 +1,6 @@
 -- Tokens that stand first among others.
-use Rattle.std.proofs.Common.{◌≡◌, ℕ, suc, ◌+◌, ◌-◌, List, [], ◌∷◌, ◌++◌, length, take, drop, get_or, refl, sym, ap, ◌∙◌, ◌≤◌, arith}
+use Rattle.std.proofs.Common.{◌≡◌, ℕ, suc, ◌+◌, ◌-◌, List, [], ◌∷◌, ◌++◌}
+use Rattle.std.proofs.Common.{length, take, drop, get_or, refl, sym, ap, ◌∙◌, ◌≤◌, arith}
 use Rattle.std.proofs.lemmas.List.{map-append, take-append-drop, take_all}
 use Rattle.std.specs.Prelude.{true, cond}
 use Rattle.std.proofs.lemmas.Bool.{eq-eqb}
@@ -92,7 +93,8 @@ module _ (wanted : Delimiter) (at es : List Entry) (e : Entry) (d : Delimiter) (
       let inside : List Spanned = spanned_entries (take n es) in
       let behind : List Spanned = spanned_entries (drop (suc n) es) in
       ap spanned_entries a
-      ∙ ap (λ ts. spanned (Opens d) s ∷ ts) (ap spanned_entries (parts d s n es (both (closes_with d s (drop n es)) _ whole).0)
+      ∙ ap (λ ts. spanned (Opens d) s ∷ ts)
+        (ap spanned_entries (parts d s n es (both (closes_with d s (drop n es)) _ whole).0)
       ∙ map-append spanned_entry (take n es) (entry.Close d s ∷ drop (suc n) es))
       ∙ ap (λ k. spanned (Opens k) s ∷ inside ++ spanned (Closes k) s ∷ behind) w
       ∙ ap (λ xs. spanned (Opens wanted) s ∷ inside ++ spanned (Closes wanted) s ∷ spanned_entries xs)

@@ -180,7 +180,8 @@ impl<'a> Reader<'a> {
 
     /// Reads the word that stands there, if it passes; `None`, and nothing is read, exactly where none does.
     pub fn optional_word(&mut self, words: Words) -> Option<&'a Ident>
-        ensures read { IfSome result (λ i. StandsWord (words_of words) (ident_text i.now) (left self.old) (left self.new)) }
+        ensures read { IfSome result
+            (λ i. StandsWord (words_of words) (ident_text i.now) (left self.old) (left self.new)) }
         ensures missing { IfNone result (NoWord (words_of words) (left self.old) × (self.new ≡ self.old)) }
         ensures placed { IfSome result (λ i. ident_span i.now ≡ standing self.old) }
         ensures onward { IsOnward self.old self.new }
@@ -203,7 +204,8 @@ impl<'a> Reader<'a> {
     /// `Syntax` exactly where none does: the error says what was wanted, at the next token. `Memory` only where the
     /// error's text found none. The reader then stands where it stood.
     pub fn word(&mut self, words: Words) -> Result<&'a Ident, ParseFault>
-        ensures read { IfOk result (λ i. StandsWord (words_of words) (ident_text i.now) (left self.old) (left self.new)) }
+        ensures read { IfOk result
+            (λ i. StandsWord (words_of words) (ident_text i.now) (left self.old) (left self.new)) }
         ensures refused { IfErr result (λ e. IsSyntax e → NoWord (words_of words) (left self.old)) }
         ensures said { IfErr result (SaysWanted (wanted.Word words) self.old) }
         ensures stays { OnErr result (self.new ≡ self.old) }

@@ -2,7 +2,8 @@
 
 ghost use Rattle.reader_table.specs.Kinds.{kind_of};
 ghost use Rattle.reader_table.specs.Looks.{look_of};
-ghost use Rattle.std.specs.Prelude.{◌≡◌, ◌&&◌, IfErr, IfNone, IfOk, IfSome, IsErrAnd, IsFalse, IsTrue, MatchOption, OnErr};
+ghost use Rattle.std.specs.Prelude.{◌≡◌, ◌&&◌, IfErr, IfNone, IfOk, IfSome, IsErrAnd, IsFalse, IsTrue};
+ghost use Rattle.std.specs.Prelude.{MatchOption, OnErr};
 ghost use Rattle.std.specs.Prelude.{OnOk, false, true};
 ghost use Rattle.syn_read.specs.Streams.{IsPassed, invisible_words};
 ghost use Rattle.syn_error.specs.Faults.{IsSyntax};

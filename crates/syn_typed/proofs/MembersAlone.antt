@@ -13,21 +13,24 @@ use Rattle.syn_grammar.specs.Tree.{Tree}
 use Rattle.syn_item.proofs.ItemKept.{kept_by_itself}
 
 -- a function
-pub function_kept : (p : k.Place) (tree : Tree) (rest : List Token) → Derives tree (ref (k.OneFunction p)) rest → IsKept tree
+pub function_kept : (p : k.Place) (tree : Tree) (rest : List Token) → Derives tree (ref (k.OneFunction p)) rest
+    → IsKept tree
 unfolding table
 function_kept p tree rest d =
     kept_by_itself (k.OneFunction p) p (seq (ref k.OuterAttributes) (seq (called n.the_visibility (ref k.Visibility))
     (seq (default_there p) (called n.the_item (ref (k.AFunction p)))))) refl tree rest d
 
 -- a constant
-pub constant_kept : (p : k.Place) (tree : Tree) (rest : List Token) → Derives tree (ref (k.OneConst p)) rest → IsKept tree
+pub constant_kept : (p : k.Place) (tree : Tree) (rest : List Token) → Derives tree (ref (k.OneConst p)) rest
+    → IsKept tree
 unfolding table
 constant_kept p tree rest d =
     kept_by_itself (k.OneConst p) p (seq (ref k.OuterAttributes) (seq (called n.the_visibility (ref k.Visibility))
     (seq (default_there p) (called n.the_item (ref k.AConst))))) refl tree rest d
 
 -- a type
-pub type_kept : (p : k.Place) (tree : Tree) (rest : List Token) → Derives tree (ref (k.OneTypeAlias p)) rest → IsKept tree
+pub type_kept : (p : k.Place) (tree : Tree) (rest : List Token) → Derives tree (ref (k.OneTypeAlias p)) rest
+    → IsKept tree
 unfolding table
 type_kept p tree rest d =
     kept_by_itself (k.OneTypeAlias p) p (seq (ref k.OuterAttributes) (seq (called n.the_visibility (ref k.Visibility))

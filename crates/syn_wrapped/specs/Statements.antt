@@ -35,7 +35,8 @@ as_expression m = t.Node (k.Expression k.InStatement) (t.Whole (t.Alone k.ExprMa
 -- the alternative of a macro: the fifth, an expression, where it is read as one, and else the second
 abbrev pub chosen_macro : StmtMacro → Tree
 chosen_macro x =
-    cond (is_call x.mac.now x.semi_token) (seconds 4 (expression_tree x.attrs.now (as_expression x.mac.now) x.semi_token))
+    cond (is_call x.mac.now x.semi_token)
+    (seconds 4 (expression_tree x.attrs.now (as_expression x.mac.now) x.semi_token))
     (t.Second (t.First (stmt_macro x)))
 
 -- the alternative of a statement: of items a macro with a name is the first, and any other the fourth
@@ -49,6 +50,7 @@ chosen_stmt (stmts.Expr x) = seconds 4 (stmt_expr x)
 -- is when it is read.
 abbrev pub IsToldAs : Stmt → Stmt → Type 0
 IsToldAs (stmts.Expr x) (stmts.Macro y) =
-    (y.attrs.now ≡ x.attrs.now) × (called_macro x.expr.now x.semi_token ≡ Some y.mac.now) × (y.semi_token ≡ x.semi_token)
+    (y.attrs.now ≡ x.attrs.now) × (called_macro x.expr.now x.semi_token ≡ Some y.mac.now)
+    × (y.semi_token ≡ x.semi_token)
 IsToldAs (stmts.Expr x) y = (called_macro x.expr.now x.semi_token ≡ None) × (y ≡ stmts.Expr x)
 IsToldAs x y = y ≡ x

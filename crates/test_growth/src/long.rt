@@ -31,5 +31,6 @@ fn put_expression<'a>(arena: &'a Arena, tree: &Tree<'a>, page: &mut Page) -> Res
 /// Forty operands, with operators of most levels between them.
 pub(crate) const LONG: [(Question, &str); 1] = [(
     Question::Long,
-    "a + b * c - d / e % f << g + h & i ^ j | k * l == m - n && o < p + q || r % s - t * u != v << w && x | y ^ z & A + B * C > D - E / F || G % H >> I == J * K + L && M >= N",
+    "a + b * c - d / e % f << g + h & i ^ j | k * l == m - n && o < p + q || r % s - t * u != v << w \
+     && x | y ^ z & A + B * C > D - E / F || G % H >> I == J * K + L && M >= N",
 )];

@@ -75,7 +75,8 @@ pub(crate) fn second_behind<'a>(
     inner: Result<Tree<'a>, Fault>,
 ) -> Result<Tree<'a>, Fault>
     ensures { (x : t.Tree) → MatchResult inner.entry (λ z. z ≡ x) (λ fault. IsFault fault x)
-        → MatchResult result (λ z. z ≡ t.Second (seconds depth x)) (λ fault. IsFault fault (t.Second (seconds depth x))) }
+        → MatchResult result (λ z. z ≡ t.Second (seconds depth x))
+        (λ fault. IsFault fault (t.Second (seconds depth x))) }
 {
     Ok(Tree {
         form: Form::Second(depth, arena.put(inner?)?),

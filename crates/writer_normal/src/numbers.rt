@@ -68,7 +68,8 @@ pub(crate) fn lone_field<'a>(
 // A field by a number, of an operand.
 fn index_field<'a>(arena: &'a Arena, left: Tree<'a>, value: u32) -> Result<Tree<'a>, AllocError>
     ensures { IfOk result (λ x. x ≡ t.Back left.entry ExprField
-        (t.Pair (t.Pair lone_dot (t.Called the_indices t.End)) (t.Second (t.Called the_value (t.ALiteral (decimal value)))))) }
+        (t.Pair (t.Pair lone_dot (t.Called the_indices t.End))
+        (t.Second (t.Called the_value (t.ALiteral (decimal value)))))) }
 {
     let dot = made::mark(Sign::Dot, Spacing::Alone, Span::call_site());
     let named = steps::called(arena, Part::Value, number(arena, value));

@@ -65,7 +65,8 @@ pub(crate) fn put_laid<'a>(
     tree: &Tree<'a>,
     out: &mut Vec<Piece<'a>>,
 ) -> Result<(), AllocError>
-    ensures put { OnOk result (map piece_token out.new.items ≡ map piece_token out.old.items ++ laid_in within tree.now) }
+    ensures put { OnOk result (map piece_token out.new.items
+        ≡ map piece_token out.old.items ++ laid_in within tree.now) }
     ensures keeps { Keeps out.old.items out.new.items }
 {
     let mut left = ending(within, tree);
@@ -135,7 +136,8 @@ fn put_first<'a>(
     tree: &Tree<'a>,
     out: &mut Vec<Piece<'a>>,
 ) -> Result<(), AllocError>
-    ensures put { OnOk result (map piece_token out.new.items ≡ map piece_token out.old.items ++ laid_in within tree.now) }
+    ensures put { OnOk result (map piece_token out.new.items
+        ≡ map piece_token out.old.items ++ laid_in within tree.now) }
     ensures keeps { Keeps out.old.items out.new.items }
 {
     match &tree.form {
@@ -162,7 +164,8 @@ fn put_group<'a>(
     out: &mut Vec<Piece<'a>>,
 ) -> Result<(), AllocError>
     ensures put { OnOk result (map piece_token out.new.items
-        ≡ map piece_token out.old.items ++ token.Opens delimiter ∷ laid_in within inner.now ++ token.Closes delimiter ∷ []) }
+        ≡ map piece_token out.old.items
+        ++ token.Opens delimiter ∷ laid_in within inner.now ++ token.Closes delimiter ∷ []) }
     ensures keeps { Keeps out.old.items out.new.items }
 {
     opening(delimiter, span, out)?;

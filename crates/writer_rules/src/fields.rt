@@ -83,7 +83,7 @@ pub fn number<'a>(literal: &Literal, out: &mut Vec<Piece<'a>>) -> Result<(), All
 }
 
 // Puts the index that stands up to the first dot behind a dot, both at that place. What is left from that dot on.
-#[tactic(auto, unfolding(syn_grammar::specs::Words::plain_decimal), using(crate::proofs::Pushing::puts, crate::proofs::Fronts::kept))]
+#[tactic(auto, unfolding(syn_grammar::specs::Words::plain_decimal), using(crate::proofs::Pushing::field_laws))]
 fn field<'a, 't>(text: &'t str, span: Span, out: &mut Vec<Piece<'a>>) -> Result<&'t str, AllocError>
     ensures put { OnOk result (map piece_token out.new.items ≡ map piece_token out.old.items
         ++ token.Punct 46 Apart ∷ token.Literal (plain_decimal (before_dot (chars text.now))) ∷ []) }

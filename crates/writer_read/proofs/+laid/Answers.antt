@@ -280,7 +280,8 @@ expressed::put_own-returns-in_default-clause-put n c =
     ≡ map piece_token c.args.out.now.items ++ ts))
     (sym (own_undotted (kind_of c.args.kind) c.args.own.now is none)) c.put_laid-in_default.ensures.put
 
-pub expressed::put_own-returns-in-Some-last_number-clause-put : goal.expressed::put_own-returns-in-Some-last_number-clause-put
+pub expressed::put_own-returns-in-Some-last_number-clause-put :
+    goal.expressed::put_own-returns-in-Some-last_number-clause-put
 expressed::put_own-returns-in-Some-last_number-clause-put n c =
     let is : is_dotted (kind_of c.args.kind) ≡ true = search rules in
     let dotted : Some (c.in-Some.parts.dot.now, c.in-Some.parts.numbers.now, c.in-Some.parts.behind.now)
@@ -363,7 +364,8 @@ pub expressed::put_operand-returns-clause-keeps : goal.expressed::put_operand-re
 expressed::put_operand-returns-clause-keeps n c =
     keeps_both _ _ _ (keeps_both _ _ _ c.put_if.ensures.keeps c.put_chain.ensures.keeps) c.put_if-2.ensures.keeps
 
-pub expressed::put_operand-returns-in_err-put_chain-clause-keeps : goal.expressed::put_operand-returns-in_err-put_chain-clause-keeps
+pub expressed::put_operand-returns-in_err-put_chain-clause-keeps :
+    goal.expressed::put_operand-returns-in_err-put_chain-clause-keeps
 expressed::put_operand-returns-in_err-put_chain-clause-keeps n c =
     keeps_both _ _ _ c.put_if.ensures.keeps c.put_chain.ensures.keeps
 
@@ -386,7 +388,8 @@ pub expressed::put_left-returns-clause-keeps : goal.expressed::put_left-returns-
 expressed::put_left-returns-clause-keeps n c = keeps_both _ _ _ c.put_operand.ensures.keeps c.put_laid.ensures.keeps
 
 -- an expression in a statement, and what stands before it and behind it
-pub expressed::put_before-returns-then-has_attributes-clause-put : goal.expressed::put_before-returns-then-has_attributes-clause-put
+pub expressed::put_before-returns-then-has_attributes-clause-put :
+    goal.expressed::put_before-returns-then-has_attributes-clause-put
 expressed::put_before-returns-then-has_attributes-clause-put n c =
     let a : Tree = c.args.before.now in
     let z : Tree = c.args.form.now in
@@ -420,16 +423,19 @@ expressed::put_statement-returns-clause-keeps n c =
     keeps_both _ _ _ c.put_before.ensures.keeps c.put_laid-2.ensures.keeps
 
 -- an own part
-pub expressed::put_own-returns-then-not-is_dotted-clause-put : goal.expressed::put_own-returns-then-not-is_dotted-clause-put
+pub expressed::put_own-returns-then-not-is_dotted-clause-put :
+    goal.expressed::put_own-returns-then-not-is_dotted-clause-put
 expressed::put_own-returns-then-not-is_dotted-clause-put n c =
     let plain : is_dotted (kind_of c.args.kind) ≡ false = search rules in
     put_same _ _ _ _ _ (sym (own_plain (kind_of c.args.kind) c.args.own.now plain)) c.put_laid.ensures.put
 
-pub expressed::put_own-returns-in-Some-last_number-clause-keeps : goal.expressed::put_own-returns-in-Some-last_number-clause-keeps
+pub expressed::put_own-returns-in-Some-last_number-clause-keeps :
+    goal.expressed::put_own-returns-in-Some-last_number-clause-keeps
 expressed::put_own-returns-in-Some-last_number-clause-keeps n c =
     keeps_both _ _ _ c.put_front_fields.ensures.keeps c.put_fields.ensures.keeps
 
-pub expressed::put_own-returns-in_err-put_laid-clause-keeps : goal.expressed::put_own-returns-in_err-put_laid-clause-keeps
+pub expressed::put_own-returns-in_err-put_laid-clause-keeps :
+    goal.expressed::put_own-returns-in_err-put_laid-clause-keeps
 expressed::put_own-returns-in_err-put_laid-clause-keeps n c =
     keeps_both _ _ _ c.put_front_fields.ensures.keeps c.put_laid-2.ensures.keeps
 
@@ -478,7 +484,8 @@ chain::put_behind-returns-clause-put n c =
 pub chain::put_behind-returns-clause-keeps : goal.chain::put_behind-returns-clause-keeps
 chain::put_behind-returns-clause-keeps n c = keeps_both _ _ _ c.put_if-2.ensures.keeps c.put_own.ensures.keeps
 
-pub chain::put_behinds-returns-in_err-put_behind-clause-keeps : goal.chain::put_behinds-returns-in_err-put_behind-clause-keeps
+pub chain::put_behinds-returns-in_err-put_behind-clause-keeps :
+    goal.chain::put_behinds-returns-in_err-put_behind-clause-keeps
 chain::put_behinds-returns-in_err-put_behind-clause-keeps n c =
     keeps_both _ _ _ c.loop-left.invariant.kept c.put_behind.ensures.keeps
 
@@ -507,7 +514,8 @@ pub chain::put_given-returns-in_err-put_laid-clause-keeps : goal.chain::put_give
 chain::put_given-returns-in_err-put_laid-clause-keeps n c =
     keeps_both _ _ _ c.put_fronts.ensures.keeps c.put_laid.ensures.keeps
 
-pub chain::put_given-returns-in_err-put_operand-clause-keeps : goal.chain::put_given-returns-in_err-put_operand-clause-keeps
+pub chain::put_given-returns-in_err-put_operand-clause-keeps :
+    goal.chain::put_given-returns-in_err-put_operand-clause-keeps
 chain::put_given-returns-in_err-put_operand-clause-keeps n c =
     keeps_both _ _ _ (keeps_both _ _ _ c.put_fronts.ensures.keeps c.put_laid.ensures.keeps)
     c.put_operand.ensures.keeps
@@ -518,7 +526,8 @@ chain::put_given-returns-clause-keeps n c =
     c.put_operand.ensures.keeps) c.put_behinds.ensures.keeps
 
 -- a turn
-pub turn::put_turn-returns-then-not-is_set_apart-clause-put : goal.turn::put_turn-returns-then-not-is_set_apart-clause-put
+pub turn::put_turn-returns-then-not-is_set_apart-clause-put :
+    goal.turn::put_turn-returns-then-not-is_set_apart-clause-put
 turn::put_turn-returns-then-not-is_set_apart-clause-put n c =
     let joined : false ≡ is_set_apart c.args.turn.now (turns c.args.behind.now) = search rules in
     put_same _ _ _ _ _ (ap (λ b. apart_where b (laid c.args.turn.now)) joined) c.put_laid.ensures.put
@@ -597,11 +606,13 @@ laid::put_parameter-returns-clause-keeps n c =
     c.one-2.ensures.keeps) c.put_laid-3.ensures.keeps
 
 -- lists
-pub laid::put_elements-returns-in_err-put_laid-clause-keeps : goal.laid::put_elements-returns-in_err-put_laid-clause-keeps
+pub laid::put_elements-returns-in_err-put_laid-clause-keeps :
+    goal.laid::put_elements-returns-in_err-put_laid-clause-keeps
 laid::put_elements-returns-in_err-put_laid-clause-keeps n c =
     keeps_both _ _ _ c.loop-element.invariant.kept c.put_laid.ensures.keeps
 
-pub laid::put_elements-returns-in_err-separator-clause-keeps : goal.laid::put_elements-returns-in_err-separator-clause-keeps
+pub laid::put_elements-returns-in_err-separator-clause-keeps :
+    goal.laid::put_elements-returns-in_err-separator-clause-keeps
 laid::put_elements-returns-in_err-separator-clause-keeps n c =
     keeps_both _ _ _ (keeps_both _ _ _ c.loop-element.invariant.kept c.put_laid.ensures.keeps)
     c.separator.ensures.keeps
@@ -648,7 +659,8 @@ laid::put_firsts-returns-in_err-comma-clause-keeps n c =
     keeps_both _ _ _ (keeps_both _ _ _ c.put_those.ensures.keeps c.put_laid-then-passes.ensures.keeps)
     c.comma.ensures.keeps
 
-pub laid::put_firsts-returns-in_err-put_others-clause-keeps : goal.laid::put_firsts-returns-in_err-put_others-clause-keeps
+pub laid::put_firsts-returns-in_err-put_others-clause-keeps :
+    goal.laid::put_firsts-returns-in_err-put_others-clause-keeps
 laid::put_firsts-returns-in_err-put_others-clause-keeps n c =
     keeps_both _ _ _ c.put_those.ensures.keeps c.put_others-else-passes.ensures.keeps
 
@@ -757,19 +769,23 @@ pub laid::put_laid-returns-in_default-within-clause-keeps : goal.laid::put_laid-
 laid::put_laid-returns-in_default-within-clause-keeps n c =
     keeps_both _ _ _ c.tails.invariant.kept c.put_part.ensures.keeps
 
-pub laid::put_laid-returns-in_err-put_first-in-Pair-clause-keeps : goal.laid::put_laid-returns-in_err-put_first-in-Pair-clause-keeps
+pub laid::put_laid-returns-in_err-put_first-in-Pair-clause-keeps :
+    goal.laid::put_laid-returns-in_err-put_first-in-Pair-clause-keeps
 laid::put_laid-returns-in_err-put_first-in-Pair-clause-keeps n c =
     keeps_both _ _ _ c.tails.invariant.kept c.put_first.ensures.keeps
 
-pub laid::put_laid-returns-in_err-put_left-in-Infix-clause-keeps : goal.laid::put_laid-returns-in_err-put_left-in-Infix-clause-keeps
+pub laid::put_laid-returns-in_err-put_left-in-Infix-clause-keeps :
+    goal.laid::put_laid-returns-in_err-put_left-in-Infix-clause-keeps
 laid::put_laid-returns-in_err-put_left-in-Infix-clause-keeps n c =
     keeps_both _ _ _ c.tails.invariant.kept c.put_left.ensures.keeps
 
-pub laid::put_laid-returns-in_err-put_laid-in-Front-clause-keeps : goal.laid::put_laid-returns-in_err-put_laid-in-Front-clause-keeps
+pub laid::put_laid-returns-in_err-put_laid-in-Front-clause-keeps :
+    goal.laid::put_laid-returns-in_err-put_laid-in-Front-clause-keeps
 laid::put_laid-returns-in_err-put_laid-in-Front-clause-keeps n c =
     keeps_both _ _ _ c.tails.invariant.kept c.put_laid.ensures.keeps
 
-pub laid::put_laid-returns-in_err-put_elements-in-Elements-clause-keeps : goal.laid::put_laid-returns-in_err-put_elements-in-Elements-clause-keeps
+pub laid::put_laid-returns-in_err-put_elements-in-Elements-clause-keeps :
+    goal.laid::put_laid-returns-in_err-put_elements-in-Elements-clause-keeps
 laid::put_laid-returns-in_err-put_elements-in-Elements-clause-keeps n c =
     keeps_both _ _ _ c.tails.invariant.kept c.put_elements.ensures.keeps
 

@@ -11,4 +11,5 @@ new-requires c =
 
 pub returns-clause-behind : goal.returns-clause-behind
 returns-clause-behind c = λ rest h.
-    ap tokens c.split_at.ensures.back ∙ left (flat c.args.tree.now) c.past.result c.args.entries.now rest (omega arith) h
+    ap tokens c.split_at.ensures.back
+    ∙ left (flat c.args.tree.now) c.past.result c.args.entries.now rest (omega arith) h

@@ -164,19 +164,23 @@ pub put_as_read-returns-in_default-clause-keeps : goal.put_as_read-returns-in_de
 put_as_read-returns-in_default-clause-keeps n c =
     keeps_both _ _ _ c.tails.invariant.kept c.put_elements.ensures.keeps
 
-pub put_as_read-returns-in_err-put_as_read-in-Pair-clause-keeps : goal.put_as_read-returns-in_err-put_as_read-in-Pair-clause-keeps
+pub put_as_read-returns-in_err-put_as_read-in-Pair-clause-keeps :
+    goal.put_as_read-returns-in_err-put_as_read-in-Pair-clause-keeps
 put_as_read-returns-in_err-put_as_read-in-Pair-clause-keeps n c =
     keeps_both _ _ _ c.tails.invariant.kept c.put_as_read.ensures.keeps
 
-pub put_as_read-returns-in_err-put_left-in-Back-clause-keeps : goal.put_as_read-returns-in_err-put_left-in-Back-clause-keeps
+pub put_as_read-returns-in_err-put_left-in-Back-clause-keeps :
+    goal.put_as_read-returns-in_err-put_left-in-Back-clause-keeps
 put_as_read-returns-in_err-put_left-in-Back-clause-keeps n c =
     keeps_both _ _ _ c.tails.invariant.kept c.put_left.ensures.keeps
 
-pub put_as_read-returns-in_err-put_before_right-in-Infix-clause-keeps : goal.put_as_read-returns-in_err-put_before_right-in-Infix-clause-keeps
+pub put_as_read-returns-in_err-put_before_right-in-Infix-clause-keeps :
+    goal.put_as_read-returns-in_err-put_before_right-in-Infix-clause-keeps
 put_as_read-returns-in_err-put_before_right-in-Infix-clause-keeps n c =
     keeps_both _ _ _ c.tails.invariant.kept c.put_before_right.ensures.keeps
 
-pub put_as_read-returns-in_err-put_elements-in-Elements-clause-keeps : goal.put_as_read-returns-in_err-put_elements-in-Elements-clause-keeps
+pub put_as_read-returns-in_err-put_elements-in-Elements-clause-keeps :
+    goal.put_as_read-returns-in_err-put_elements-in-Elements-clause-keeps
 put_as_read-returns-in_err-put_elements-in-Elements-clause-keeps n c =
     keeps_both _ _ _ c.tails.invariant.kept c.put_elements.ensures.keeps
 
@@ -211,7 +215,8 @@ put_as_read-tails-preserved-in_ok-put_left-in-Back n c = record {
       (sym c.here.view_is ∙ ap tree_of c.in-Back.is) refl (omega arith) c.tails.invariant.inside;
 }
 
-pub put_as_read-tails-preserved-in_ok-put_before_right-in-Infix : goal.put_as_read-tails-preserved-in_ok-put_before_right-in-Infix
+pub put_as_read-tails-preserved-in_ok-put_before_right-in-Infix :
+    goal.put_as_read-tails-preserved-in_ok-put_before_right-in-Infix
 put_as_read-tails-preserved-in_ok-put_before_right-in-Infix n c =
     let three = c.in-Infix.three.now in
     record {

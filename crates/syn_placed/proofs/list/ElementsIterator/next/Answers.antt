@@ -20,7 +20,8 @@ returns-clause-steps c =
     let spelled = self.is_spelled ∙ ap (λ (es : List Element). flat (elements mark es last)) is in
     let behind = c.cut.ensures.behind rest spelled in
     let here = got c.cut.result.1.now c.split_at-2.result.1.now c.index-behind-0.result
-    (Punct mark first.spacing) (flat (elements mark others last)) behind c.index-behind-0.is c.split_at-2.ensures.back in
+    (Punct mark first.spacing) (flat (elements mark others last)) behind c.index-behind-0.is
+    c.split_at-2.ensures.back in
     listed_more first others self.before.now (option_map (λ b. b.now) self.last) self.entries.now
     c.cut.result.0.entries.now c.split_at-2.result.1.now c.cut.result.0.tree.now c.index-behind-0.result
     is c.cut.ensures.tree c.cut.ensures.its (sym c.cut.ensures.left ∙ here)

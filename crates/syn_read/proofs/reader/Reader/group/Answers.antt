@@ -34,7 +34,8 @@ returns-then-eq-clause-read c =
     (first_rest _ _ (omega (arith, c.in-len1-up.len_at_least)) c.entry-item.is) c.in-Open.is
     (same_true the_type (search rules) _ _ (sym c.if-eq.ensures)) c.args.self.now.is_whole in (
       stands.0,
-      stands.1 ∙ ap (λ ts. Opens c.args.delimiter ∷ tokens (take c.in-Open.count others) ++ Closes c.args.delimiter ∷ ts)
+      stands.1
+      ∙ ap (λ ts. Opens c.args.delimiter ∷ tokens (take c.in-Open.count others) ++ Closes c.args.delimiter ∷ ts)
           (sym c.past.ensures.tokens),
     )
 
