@@ -226,7 +226,7 @@ fine_alias =
     (maybe_ahead (λ x s. has_own_where (back (back x)) ≡ true) (Sign 58 [] ∷ end_classes)
     (maybe_called (maybe_ref Generics refl))
     (maybe_ahead (λ x s. has_own_where (back x) ≡ true) end_classes
-        (maybe_called (maybe_ref BoundsColon refl)) fine_end (
+    (maybe_called (maybe_ref BoundsColon refl)) fine_end (
       (search),
       (
         ((λ us. simp (reserved_where) refl) & (λ us. refl) & (λ us. refl) & tt),

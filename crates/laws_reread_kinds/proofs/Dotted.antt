@@ -126,7 +126,7 @@ fine_call_end = record { by = go }
         let (e, j) = found_operands.fine.by g s f.1 w.1 tt in
         let (d, i) = (found_ref Arguments refl).fine.by a (flat g ++ s) f.0.1 w.0 tt in
         let h = front_seen ((marks "::") (flat a ++ (flat g ++ s))) (marks "<")
-            (arguments_seen a (flat g ++ s) d c) in (
+        (arguments_seen a (flat g ++ s) d c) in (
           ((h, d), e),
           among_left (starts Arguments) (Opening Parenthesis ∷ []) ((flat a ++ flat g) ++ s)
               (at_front (starts Arguments) a g s i),

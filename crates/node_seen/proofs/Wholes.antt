@@ -90,15 +90,24 @@ first (entry.Open d s c ∷ es) n h t =
     }
 first (entry.Close d s ∷ es) n h t = absurd t
 first (entry.Ident i ∷ es) n h t =
-    record { some = omega (arith, t); within = omega (arith, t);
-        behind = ap (λ k. is_whole (drop k (entry.Ident i ∷ es))) t ∙ h }
+    record {
+      some = omega (arith, t);
+      within = omega (arith, t);
+      behind = ap (λ k. is_whole (drop k (entry.Ident i ∷ es))) t ∙ h;
+    }
 first (entry.Punct p ∷ es) n h t =
-    record { some = omega (arith, t); within = omega (arith, t);
-        behind = ap (λ k. is_whole (drop k (entry.Punct p ∷ es))) t ∙ h }
+    record {
+      some = omega (arith, t);
+      within = omega (arith, t);
+      behind = ap (λ k. is_whole (drop k (entry.Punct p ∷ es))) t ∙ h;
+    }
 first (entry.Literal l ∷ es) n h t =
     let p = both (not (starts_with_minus (literal_text l.now))) _ h in
-    record { some = omega (arith, t); within = omega (arith, t);
-        behind = ap (λ k. is_whole (drop k (entry.Literal l ∷ es))) t ∙ p.1 }
+    record {
+      some = omega (arith, t);
+      within = omega (arith, t);
+      behind = ap (λ k. is_whole (drop k (entry.Literal l ∷ es))) t ∙ p.1;
+    }
 
 -- Whole trees end at no place within the first.
 pub no_less : (es : List Entry) (n k : ℕ) → is_whole es ≡ true → IsTrue (all_seen (spanned_entries es)) → IsTree es n

@@ -554,7 +554,7 @@ back_keeps l ExprField (Pair _ _) h f g = absurd h.0
 back_keeps l ExprField _ h f g = absurd h
 back_keeps l ExprMethodCall (Pair (Pair d (Called n x)) (Pair i (Pair a (Group c y)))) h f g =
     to_open _ _ (dotted_open (kept l) ExprMethodCall (kept d) n (kept x)
-        (Pair (kept i) (Pair (kept a) (Group c (kept y))))
+    (Pair (kept i) (Pair (kept a) (Group c (kept y))))
     (ends_behind (flat (kept i)) _ (ends_behind (flat (kept a)) _ (closed (flat (kept y)) c h.1.1.1.0))))
 back_keeps l ExprMethodCall (Pair (Pair d (Called n x)) (Pair i (Pair a _))) h f g = absurd h.1.1.1
 back_keeps l ExprMethodCall (Pair (Pair d (Called n x)) (Pair i _)) h f g = absurd h.1.1

@@ -262,6 +262,28 @@ pub ruleset there_laws = (there, not_there)
 
 pub ruleset again_laws = (turns_begin, turn_more, turn_none, turns_end)
 
-pub ruleset see_laws =
-    (nothing, word, quoted, past_first, past_literals, mark, lifetime, opens, opening, closes, group, end,
-    nowhere_seen, then_lacks, then_fails, then_goes, or_lacks, one, other, maybe, no_here, no_such, repeatedly)
+pub ruleset see_laws = (
+  nothing,
+  word,
+  quoted,
+  past_first,
+  past_literals,
+  mark,
+  lifetime,
+  opens,
+  opening,
+  closes,
+  group,
+  end,
+  nowhere_seen,
+  then_lacks,
+  then_fails,
+  then_goes,
+  or_lacks,
+  one,
+  other,
+  maybe,
+  no_here,
+  no_such,
+  repeatedly,
+)

@@ -94,7 +94,7 @@ first_tree (tree.Literal l) (tree.Literal k) ts us m n e = (cc, cc)
 pub parted : (ts : List TokenTree) (n : ℕ) (z : TokenTree) → n < length ts
     → plain (trees_tokens ts)
     ≡ plain (trees_tokens (take n ts)) ++ (plain (tree_tokens (get_or ts n z))
-        ++ plain (trees_tokens (drop (suc n) ts)))
+    ++ plain (trees_tokens (drop (suc n) ts)))
 parted [] n z l = absurd (omega arith)
 parted (t ∷ ts) zero z l = map-append (λ (s : Spanned). s.token) (tree_tokens t) (trees_tokens ts)
 parted (t ∷ ts) (suc n) z l =

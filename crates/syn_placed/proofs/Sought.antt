@@ -90,7 +90,7 @@ closed d x e es front (c ∷ mid) rest h spelled is =
       front = e ∷ (front ++ c ∷ []);
       is_front = ap (λ k. k ∷ tokens (front ++ c ∷ [])) b.0
           ∙ ap (λ ts. Opens d ∷ ts) (both_past front (c ∷ []) (flat x) (Closes d ∷ [])
-              spelled (ap (λ k. k ∷ []) close));
+          spelled (ap (λ k. k ∷ []) close));
       is = ap (λ us. e ∷ us) (append_assoc front (c ∷ []) mid ∙ is);
     }
 

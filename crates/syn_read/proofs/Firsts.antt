@@ -94,7 +94,7 @@ module _ (wanted : Delimiter) (at es : List Entry) (e : Entry) (d : Delimiter) (
       let behind : List Spanned = spanned_entries (drop (suc n) es) in
       ap spanned_entries a
       ∙ ap (λ ts. spanned (Opens d) s ∷ ts)
-        (ap spanned_entries (parts d s n es (both (closes_with d s (drop n es)) _ whole).0)
+      (ap spanned_entries (parts d s n es (both (closes_with d s (drop n es)) _ whole).0)
       ∙ map-append spanned_entry (take n es) (entry.Close d s ∷ drop (suc n) es))
       ∙ ap (λ k. spanned (Opens k) s ∷ inside ++ spanned (Closes k) s ∷ behind) w
       ∙ ap (λ xs. spanned (Opens wanted) s ∷ inside ++ spanned (Closes wanted) s ∷ spanned_entries xs)

@@ -38,7 +38,7 @@ put_seen-loop-ident-preserved-in_ok-push-in-Ident t c =
       passed ++ token ∷ [],
       put_more c.args.entries.now.items before c.push.new.self.items passed (token ∷ []) c.loop-ident.invariant.1
           (put_one before c.push.new.self.items (entry.Ident c.in-Ident.ident)
-            c.in_ok-push-in-Ident.ensures.items refl),
+          c.in_ok-push-in-Ident.ensures.items refl),
       c.loop-ident.invariant.2 ∙ ap (λ ts. passed ++ ts) takes.reads
           ∙ sym (append_assoc passed (token ∷ []) (rest c.in-Ident.behind)),
     )

@@ -35,7 +35,7 @@ returns-then-eq-clause-read c =
     (same_true the_type (search rules) _ _ (sym c.if-eq.ensures)) c.args.self.now.is_whole in (
       stands.0,
       stands.1
-      ∙ ap (λ ts. Opens c.args.delimiter ∷ tokens (take c.in-Open.count others) ++ Closes c.args.delimiter ∷ ts)
+          ∙ ap (λ ts. Opens c.args.delimiter ∷ tokens (take c.in-Open.count others) ++ Closes c.args.delimiter ∷ ts)
           (sym c.past.ensures.tokens),
     )
 
