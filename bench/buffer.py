@@ -76,7 +76,8 @@ def main():
         with open(path, "wb") as file:
             file.write(text)
         print(f"{len(text) / 1e6:.1f} MB: {same_counts(programs, path)}\n")
-        print("| Lexing aside | this | peer with spans | peer without | this/with | this/without | Bytes a byte, each |")
+        print("| Lexing aside | this | peer with spans | peer without | this/with | this/without "
+              "| Bytes a byte, each |")
         print("|---|---|---|---|---|---|---|")
         order = ["this", *PEERS]
         lexing, _ = measured(runner, [[programs[name]] for name in order], path, runs)

@@ -2,13 +2,14 @@
 """Times `canon` beside syn, which reads the same text as a file and prints its tokens, with span locations and without
 them, all in one run. Prints tables: for each text the least processor time of several runs of each program, and its
 peak memory for each byte of the text. The first is of whole runs. The second is of an outline, for which the file is
-read whole, and a line is written for each name, beside lexing and reading alone: syn's tree is let go of. The third is of
-lexing alone. The last one has Debian's rustfmt beside them, on files of std alone, as it asks for more than that a text is lexed
-and read: on the largest and one of 0.1 MB, and on all that both take, each by itself, the sum of one run of each.
+read whole, and a line is written for each name, beside lexing and reading alone: syn's tree is let go of. The third is
+of lexing alone. The last one has Debian's rustfmt beside them, on files of std alone, as it asks for more than that a
+text is lexed and read: on the largest and one of 0.1 MB, and on all that both take, each by itself, the sum of one run
+of each.
 
-Usage: bench/canon.py [RUNS [CANON LEXER]]. It builds the programs first, which proves what isn't proved yet, or takes those
-that are named, and fetches Debian's packages rust-src, librust-proc-macro2-dev, librust-syn-dev, librust-quote-dev and
-rustfmt where they are missing. The peer is built with plain rustc, and nothing of it is kept."""
+Usage: bench/canon.py [RUNS [CANON LEXER]]. It builds the programs first, which proves what isn't proved yet, or takes
+those that are named, and fetches Debian's packages rust-src, librust-proc-macro2-dev, librust-syn-dev,
+librust-quote-dev and rustfmt where they are missing. The peer is built with plain rustc, and nothing of it is kept."""
 
 import glob
 import os
@@ -134,8 +135,8 @@ def content(name):
 
 def modules(files):
     """The files, each as a module of its own."""
-    parts = (b"mod file_%d {\n%s\n}\n" % (at, content(name).removeprefix(b"\xef\xbb\xbf")) for at, name in enumerate(files))
-    return list(parts)
+    inside = (content(name).removeprefix(b"\xef\xbb\xbf") for name in files)
+    return [b"mod file_%d {\n%s\n}\n" % (at, text) for at, text in enumerate(inside)]
 
 
 def texts():
@@ -211,11 +212,13 @@ def beside_rustfmt(runner, programs, made, place, runs):
             file.write(text)
         (ours, theirs), memory = measured(runner, commands, place, runs)
         each = ", ".join(f"{peak / len(text):.0f}" for peak in memory)
-        print(f"| {what} | {len(text) / 1e6:.1f} | {ours:.3f} s | {theirs:.3f} s | {ours / theirs:.2f} | {each} |", flush=True)
+        times = f"{ours:.3f} s | {theirs:.3f} s | {ours / theirs:.2f}"
+        print(f"| {what} | {len(text) / 1e6:.1f} | {times} | {each} |", flush=True)
     taken = [name for name in files_of_std()[1] if all(is_read(command, content(name)) for command in commands)]
     size = sum(os.path.getsize(name) for name in taken)
     ours, theirs = (sum(runner.once(command, name)[0] for name in taken) for command in commands)
-    print(f"| {len(taken)} files of std, each by itself | {size / 1e6:.1f} | {ours:.3f} s | {theirs:.3f} s | {ours / theirs:.2f} | |", flush=True)
+    times = f"{ours:.3f} s | {theirs:.3f} s | {ours / theirs:.2f}"
+    print(f"| {len(taken)} files of std, each by itself | {size / 1e6:.1f} | {times} | |", flush=True)
 
 
 def main():

@@ -1,5 +1,5 @@
-//! The peer of `canon.py`: reads Rust source on standard input as a file by syn and prints the tokens of its tree. With the
-//! argument `read` it reads and prints nothing, with `lex` it lexes and prints nothing.
+//! The peer of `canon.py`: reads Rust source on standard input as a file by syn and prints the tokens of its tree. With
+//! the argument `read` it reads and prints nothing, with `lex` it lexes and prints nothing.
 
 use proc_macro2::TokenStream;
 use quote::ToTokens;

@@ -1,9 +1,9 @@
 #!/usr/bin/env python3
-"""Times reading alone and printing alone beside syn's, with span locations and without them, all in one run. Prints a table:
-for each text of `canon.py` but the macro what one reading of its tokens takes, from the making of the buffer to the letting go of
-the tree, and what one printing of a tree takes, from the tree to the text. Each is the difference of two whole runs, of which one
-reads or prints more often, divided by how much more often; of each run the least processor time of several, in which the programs
-take turns.
+"""Times reading alone and printing alone beside syn's, with span locations and without them, all in one run. Prints a
+table: for each text of `canon.py` but the macro what one reading of its tokens takes, from the making of the buffer to
+the letting go of the tree, and what one printing of a tree takes, from the tree to the text. Each is the difference of
+two whole runs, of which one reads or prints more often, divided by how much more often. Of each run it is the least
+processor time of several, in which the programs take turns.
 
 Usage: bench/stages.py [RUNS]                 measures: 5 runs
        bench/stages.py with PROGRAM [RUNS]    the same of a program that is built already
@@ -23,8 +23,8 @@ NAME = "stages"
 
 # The program: two numbers on the first line of standard input, and the text behind it.
 SOURCE = """\
-//! Reads the tokens of a text as a file so often, and writes and prints what was read so often: two numbers on the first line
-//! of standard input, and the text behind it.
+//! Reads the tokens of a text as a file so often, and writes and prints what was read so often: two numbers on the first
+//! line of standard input, and the text behind it.
 #![tactic(auto)]
 
 use anyhow::{Result, anyhow};

@@ -1,22 +1,24 @@
 #!/usr/bin/env python3
-"""Measures what walks along expressions take, by a small program over `syn` that stands below. Prints tables of two kinds.
+"""Measures what walks along expressions take, by a small program over `syn` that stands below. Prints tables of two
+kinds.
 
-Depth: along chains of n operators, method calls and `else if`, up to how many each walk ends with 8 MiB of stack: reading,
-comparing two readings, copying and comparing, comparing with a tree of no token, what is put as it was read, written, or listed
-as nodes or leaves. What was made is let go of in each.
+Depth: along chains of n operators, method calls and `else if`, up to how many each walk ends with 8 MiB of stack:
+reading, comparing two readings, copying and comparing, comparing with a tree of no token, what is put as it was read,
+written, or listed as nodes or leaves. What was made is let go of in each.
 
-Built: trees of n forms that are put together by hand, in five shapes, and written by `write_in` and by `put_normal` and printed,
-and those that are made and no more: the least processor time of several whole runs, and the peak of memory (of which the script
-has 11 MB itself before the program begins), with a stack without limit.
+Built: trees of n forms that are put together by hand, in five shapes, and written by `write_in` and by `put_normal` and
+printed, and those that are made and no more: the least processor time of several whole runs, and the peak of memory (of
+which the script has 11 MB itself before the program begins), with a stack without limit.
 
 Usage: bench/walks.py [RUNS [MOST [SIZE..]]]           measures: 5 runs, up to 100,000, sizes 10,000, 20,000 and 40,000
        bench/walks.py with PROGRAM [RUNS [MOST [SIZE..]]]   the same of a program that is built already
-       bench/walks.py crate FOLDER                     writes a copy of the repository with the program's crate, and no more
+       bench/walks.py crate FOLDER                     writes a copy of the repository with the program's crate
 
-The program is proved and built in a copy of the repository, in a folder that is removed behind it: the crates below it are
-proved there too where nothing of them is kept on this machine. For a look at small texts `crate` is enough:
+The program is proved and built in a copy of the repository, in a folder that is removed behind it: the crates below it
+are proved there too where nothing of them is kept on this machine. For a look at small texts `crate` is enough:
 
-    bench/walks.py crate /tmp/walks && cd /tmp/walks/crates/walks && printf 'write_in 3\\n[a, a + a, a * a]' | rt try
+    bench/walks.py crate /tmp/walks && cd /tmp/walks/crates/walks
+    printf 'write_in 3\\n[a, a + a, a * a]' | rt try
 """
 
 import os
@@ -32,15 +34,16 @@ STACK = 8 << 20
 NAME = "walks"
 BELOW = "anyhow syn"
 
-# The program: the first line of standard input says what it does, the text behind it is an expression. With a number in that line
-# it is an array: its first element is put into the next, that into the one behind it, and so on, all of them so often.
+# The program: the first line of standard input says what it does, the text behind it is an expression. With a number in
+# that line it is an array: its first element is put into the next, that into the one behind it, and so on, all of them
+# so often.
 SOURCE = """\
-//! Walks along an expression that is read, or that is put together by hand. The first line of standard input names the walk,
-//! and the text behind it is an expression.
+//! Walks along an expression that is read, or that is put together by hand. The first line of standard input names the
+//! walk, and the text behind it is an expression.
 //!
-//! Behind the walk a number may stand, and `right`: then the expression is an array, whose first element becomes the left
-//! operand, or the right one, of the next element, that of the one behind it, and so on, all of them so often. The walk is
-//! along what was put together so.
+//! Behind the walk a number may stand, and `right`: then the expression is an array, whose first element becomes the
+//! left operand, or the right one, of the next element, that of the one behind it, and so on, all of them so often. The
+//! walk is along what was put together so.
 #![tactic(auto)]
 
 use anyhow::{Result, anyhow};
@@ -348,7 +351,8 @@ def main():
         return crate(words[1])
     given = words[1] if words[:1] == ["with"] else None
     numbers = [int(word) for word in (words[2:] if given else words)]
-    runs, most, sizes = (numbers[0:1] or [5])[0], (numbers[1:2] or [100_000])[0], numbers[2:] or [10_000, 20_000, 40_000]
+    runs, most = (numbers[0:1] or [5])[0], (numbers[1:2] or [100_000])[0]
+    sizes = numbers[2:] or [10_000, 20_000, 40_000]
     with tempfile.TemporaryDirectory() as folder:
         program = given or built(folder)
         depth_table(program, most)

@@ -1,13 +1,13 @@
 #!/usr/bin/env bash
 # Runs built programs once for each allocation that they make, refusing that one: canon_cli on small texts, on a large
-# text, on doc and other comments, on texts at fault, on an argument, and for outlines; test_canon_growth on the small texts,
-# behind an older text in their map, and asked once more where that was refused; bench_lexer on its stored input; test_lexer
-# on each text of tests/texts, behind an older text in its map, and on what it reads, builds and shows by itself,
-# literals of texts and their values among it; test_parse_core on what it reads, builds, writes and prints by itself;
-# test_growth likewise; and test_made on its stored input, whose rows are trees that are made of the syntax tree's
-# types. Each run must give the answer itself, with its status and what it says on standard error, or end with nothing
-# written: with status 3 where memory was refused (in test_lexer, test_parse_core, test_growth and test_made to a call that is
-# looked at, which then left all as it was), or with their status 4 where it was refused elsewhere.
+# text, on doc and other comments, on texts at fault, on an argument, and for outlines; test_canon_growth on the small
+# texts, behind an older text in their map, and asked once more where that was refused; bench_lexer on its stored input;
+# test_lexer on each text of tests/texts, behind an older text in its map, and on what it reads, builds and shows by
+# itself, literals of texts and their values among it; test_parse_core on what it reads, builds, writes and prints by
+# itself; test_growth likewise; and test_made on its stored input, whose rows are trees that are made of the syntax
+# tree's types. Each run must give the answer itself, with its status and what it says on standard error, or end with
+# nothing written: with status 3 where memory was refused (in test_lexer, test_parse_core, test_growth and test_made to
+# a call that is looked at, which then left all as it was), or with their status 4 where it was refused elsewhere.
 # canon_cli says "canon: out of memory" then, and the others nothing.
 # Usage: tests/refused.sh. `rt run` proves and builds the programs first. It needs cc, glibc and python3.
 set -euo pipefail

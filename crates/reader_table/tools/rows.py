@@ -629,7 +629,8 @@ def write_entry(arms):
     body = '\n'.join(f'        {arm}' for arm in arms)
     modules = ', '.join(sorted(c.lower() for c in CATEGORIES))
     head = ['//! The entry of each kind.', '', '// Written by tools/rows.py.', '',
-            'ghost use Rattle.reader_table.specs.Kinds.{kind_of};', 'ghost use Rattle.reader_table.specs.Ops.{gram_of};',
+            'ghost use Rattle.reader_table.specs.Kinds.{kind_of};',
+            'ghost use Rattle.reader_table.specs.Ops.{gram_of};',
             'ghost use Rattle.std.specs.Prelude.{◌≡◌};', 'ghost use Rattle.syn_grammar.specs.Table.{table};', '',
             'use crate::kind::Kind;', 'use crate::op::Op;', f'use crate::{{{modules}}};', '',
             '/// The entry of a kind, as steps.', "pub fn entry(kind: Kind) -> &'static [Op]",
@@ -638,7 +639,8 @@ def write_entry(arms):
     write('src/entry.rt', '\n'.join(head))
     plain = [re.match(r'Kind::(\w+) =>', arm) for arm in arms]
     answers('entry/entry', ['use Rattle.std.proofs.Common.{sym, ap}', 'use Rattle.syn_grammar.specs.Gram.{Gram}',
-                            'use Rattle.syn_grammar.specs.Table.{table}', 'use Rattle.reader_table.specs.Kinds.{kind_of}',
+                            'use Rattle.syn_grammar.specs.Table.{table}',
+                            'use Rattle.reader_table.specs.Kinds.{kind_of}',
                             'use Rattle.reader_table.specs.declared.kind.Kind.{Kind}'],
             [(m.group(1), 'table', f'sym (ap entry_of c.in-{m.group(1)}.is)') for m in plain if m],
             ['abbrev entry_of : Kind → Gram', 'entry_of k = table (kind_of k)', ''])
