@@ -1,6 +1,6 @@
 //! The peer of `stages.py`: reads Rust source by syn, and prints it. Two numbers stand on the first line of standard
-//! input, and the text behind it: how often its tokens are read as a file, and how often the tokens of what was read are
-//! printed.
+//! input, and the text behind it: how often its tokens are read as a file, and how often the tokens of what was read
+//! are printed.
 
 use proc_macro2::TokenStream;
 use quote::ToTokens;

@@ -23,8 +23,8 @@ NAME = "stages"
 
 # The program: two numbers on the first line of standard input, and the text behind it.
 SOURCE = """\
-//! Reads the tokens of a text as a file so often, and writes and prints what was read so often: two numbers on the first
-//! line of standard input, and the text behind it.
+//! Reads the tokens of a text as a file so often, and writes and prints what was read so often: two numbers on the
+//! first line of standard input, and the text behind it.
 #![tactic(auto)]
 
 use anyhow::{Result, anyhow};

@@ -5,10 +5,10 @@ and the answers are here, and docs/MESSAGES.md shows them in a table.
   tests/messages.py PROGRAM         runs a built `canon` on each text, and compares what it says with the answer
   tests/messages.py --rustc RUSTC   does the same with rustc
   tests/messages.py --cases FOLDER  puts each text into a file of a folder, of which `rt try --cases` makes its runs
-  tests/messages.py --page          writes the page's table and the lines of the functions that it names
+  tests/messages.py --page          writes the page's table
 
-The first two, and a call with no argument, also see that the page is as it would be written. What is amiss is
-printed, and the status is 1 then. Answers of `canon` were worked out by hand. What is said to be expected is what
+Each call also sees that the page is as it would be written, and that the functions which it names stand where it says.
+What is amiss is printed, and the status is 1 then. Answers of `canon` were worked out by hand. What is said to be expected is what
 must stand there, and not what may be left out. It is said at the first token that can't be read, or at the word that
 is to blame. Columns count from 0 for both, so rustc's are one less than it prints."""
 import argparse
@@ -109,8 +109,8 @@ CASES = [
 ]
 
 TABLE = re.compile(r'(<!-- tests/messages\.py --page writes this -->\n).*?(<!-- to here -->)', re.S)
-# A function that the page names: its file, its line, its name.
-FUNCTION = re.compile(r'(crates/[\w/]+\.rt):(\d+)(\s+)`(\w+)`')
+# A function that the page names: its name, its file.
+FUNCTION = re.compile(r'`(\w+)`\s+in\s+(crates/[\w/]+\.rt)')
 
 
 # What is said.
@@ -181,19 +181,14 @@ def table():
     return '\n'.join(lines)
 
 
-def line_of(path, name):
-    """The line at which a function of that name begins, from 1; None if there is none."""
+def has_function(path, name):
     with open(os.path.join(TOP, path), encoding='utf8') as file:
-        for number, line in enumerate(file, 1):
-            if re.search(rf'\bfn {name}\b', line):
-                return number
-    return None
+        return bool(re.search(rf'\bfn {name}\b', file.read()))
 
 
 def page_of(old):
-    """The page with the table and the lines as they are."""
-    new = TABLE.sub(lambda found: found[1] + table() + found[2], old)
-    return FUNCTION.sub(lambda it: f'{it[1]}:{line_of(it[1], it[4])}{it[3]}`{it[4]}`', new)
+    """The page with the table as it is."""
+    return TABLE.sub(lambda found: found[1] + table() + found[2], old)
 
 
 def page_amiss():
@@ -203,8 +198,8 @@ def page_amiss():
         yield 'docs/MESSAGES.md: no place for the table, or several'
     if page_of(old) != old:
         yield 'docs/MESSAGES.md: not as it would be written: tests/messages.py --page'
-    for path, _, _, name in FUNCTION.findall(old):
-        if line_of(path, name) is None:
+    for name, path in FUNCTION.findall(old):
+        if not has_function(path, name):
             yield f'docs/MESSAGES.md: no function {name} in {path}'
 
 

@@ -1,16 +1,23 @@
 #!/usr/bin/env python3
 """Writes the figures that follow from others: in docs/GATE.md the sums of its tables and of all of them, and
-how many edits there are; and in docs/maintainers/MAINTAINING.md what is proved again where some crates change, by those
-tables. It says which crates have other edits than the tables have the time of, as these are to be measured.
+how many edits there are; in docs/maintainers/MAINTAINING.md what is proved again where some crates change, by those
+tables; and where it is said how many texts of the grammar have answers by hand, their number. It says which crates have
+other edits than the tables have the time of, as these are to be measured.
 
 Usage: tools/figures.py. tools/generate runs it."""
 import collections
 import glob
 import os
 import re
+import sys
 
 from above import TOP, proved_again
 
+sys.path.insert(0, os.path.join(TOP, 'tests', 'grammar'))
+from run import stored  # noqa: E402
+
+TEXTS = os.path.join(TOP, 'tests', 'grammar', 'README.md')
+ALL_TEXTS = [os.path.join(TOP, 'README.md'), os.path.join(TOP, 'docs', 'PROVED.md')]
 GATE = os.path.join(TOP, 'docs', 'GATE.md')
 MAINTAINING = os.path.join(TOP, 'docs', 'maintainers', 'MAINTAINING.md')
 # A crate's functions, its check, its edits and their checks.
@@ -18,6 +25,8 @@ CRATE = re.compile(r'^\| `(\w+)` \|([^|\n]*)\|([^|\n]*)\|([^|\n]*)\|([^|\n]*)\|$
 SUM = re.compile(r'^\| all of them \|.*$', re.M)
 WHOLE = re.compile(r'the checks take [\d,]+ s, and the \d+ edits [\d,]+ s')
 FOLDER = re.compile(r'(`crates/NAME/([\w-]+)/\*\.edit`, )\d+')
+TEXTS_ROW = re.compile(r'^(\| `(\w+\.txt)` \| )\d+', re.M)
+ALL_OF_THEM = re.compile(r'[\d,]+(?= texts\s+with answers by hand)')
 AGAIN = re.compile(r'^\| ((?:`\w+`(?: and )?)+) \| \d+ \| [\d,]+ s \| [\d,]+ s \|$', re.M)
 
 
@@ -74,9 +83,20 @@ def again(found):
     return f'| {found[1]} | {len(crates)} | {checks:,} s | {took:,} s |'
 
 
+def count_texts():
+    """How many texts have answers by hand: of each file by its name, and in all, the grammar's page included."""
+    paths = glob.glob(os.path.join(TOP, 'tests', 'grammar', 'texts', '*.txt'))
+    counts = {os.path.basename(path): len([*stored(path)]) for path in paths}
+    return counts, sum(counts.values()) + len([*stored(os.path.join(TOP, 'docs', 'GRAMMAR.md'))])
+
+
 def main():
     write(GATE, gate(read(GATE)))
     write(MAINTAINING, AGAIN.sub(again, read(MAINTAINING)))
+    counts, total = count_texts()
+    write(TEXTS, TEXTS_ROW.sub(lambda it: f'{it[1]}{counts[it[2]]}', read(TEXTS)))
+    for page in ALL_TEXTS:
+        write(page, ALL_OF_THEM.sub(f'{total:,}', read(page)))
 
 
 if __name__ == '__main__':
