@@ -1,7 +1,7 @@
 #!/usr/bin/env python3
-"""Sees that the pages hold together: lines of at most 120 characters; links to pages and to headings that are there;
-files and folders of the repository that are there where a page names them; and each crate in the pages that list all,
-and no other.
+"""Sees that the pages hold together: lines of at most 120 characters, sentences of at most 30 words, and a README.md of
+at most 200 lines; links to pages and to headings that are there; files and folders of the repository that are there
+where a page names them; and each crate in the pages that list all, and no other.
 
 Usage: tests/docs.py. It prints what is amiss, and ends with status 1 if something is."""
 import os
@@ -48,6 +48,36 @@ def long_lines(page, text):
             yield f'{page}:{number}: {len(line)} characters'
 
 
+def blocks(text):
+    """Paragraphs, items of lists and cells of tables, each as one line."""
+    block = []
+    for line in without_code(text).split('\n'):
+        line = line.strip()
+        if not line or line[0] in '|#' or re.match(r'([-*]|\d+\.) ', line):
+            yield ' '.join(block)
+            block = []
+        if line.startswith('|'):
+            yield from re.split(r'(?<!\\)\|', line)
+        else:
+            block.append(line.lstrip('>').strip())
+    yield ' '.join(block)
+
+
+def long_sentences(page, text):
+    """Sentences of more than 30 words, where what stands in backquotes is one word."""
+    for block in blocks(text):
+        block = re.sub(r'\]\([^)]*\)', ']', re.sub(r'`[^`]*`', 'CODE', block))
+        for sentence in re.split(r'(?<=[.!?])\**\s+(?=\[|[*(]*[A-Z\d])', block):
+            words = re.findall(r"[\w'’,./-]*\w[\w'’-]*", sentence)
+            if len(words) > 30:
+                yield f'{page}: {len(words)} words: {sentence}'
+
+
+def long_readme(page, text):
+    if page == 'README.md' and text.count('\n') > 200:
+        yield f'{page}: more than 200 lines'
+
+
 def dead_links(page, text):
     folder = os.path.dirname(TEMPLATES.get(page, page))
     for link in re.findall(r'\]\(([^)\s]+)\)', without_code(text)):
@@ -85,7 +115,7 @@ def main():
     amiss = [*other_crates()]
     for page in pages():
         text = read(page)
-        for look in (long_lines, dead_links, missing_files):
+        for look in (long_lines, long_sentences, long_readme, dead_links, missing_files):
             amiss += look(page, text)
     print('\n'.join(amiss) or f'{len(pages())} pages hold together')
     return bool(amiss)
