@@ -8,9 +8,9 @@ and the answers are here, and docs/MESSAGES.md shows them in a table.
   tests/messages.py --page          writes the page's table
 
 Each call also sees that the page is as it would be written, and that the functions which it names stand where it says.
-What is amiss is printed, and the status is 1 then. Answers of `canon` were worked out by hand. What is said to be expected is what
-must stand there, and not what may be left out. It is said at the first token that can't be read, or at the word that
-is to blame. Columns count from 0 for both, so rustc's are one less than it prints."""
+What is amiss is printed, and the status is 1 then. Answers of `canon` were worked out by hand. What is said to be
+expected is what must stand there, and not what may be left out. It is said at the first token that can't be read, or
+at the word that is to blame. Columns count from 0 for both, so rustc's are one less than it prints."""
 import argparse
 import collections
 import json
