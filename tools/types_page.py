@@ -10,7 +10,8 @@ import re
 TOP = os.path.dirname(os.path.dirname(os.path.abspath(__file__)))
 CRATES = {'syn_part': 'what several types have', 'syn_ast': 'types, paths, bounds, generics, attributes',
           'syn_pat': 'patterns', 'syn_expr': 'expressions, statements, blocks, files', 'syn_data': 'data',
-          'syn_item': 'items', 'syn_members': 'members of traits, impls and extern blocks'}
+          'syn_item': 'items', 'syn_members': 'members of traits, impls and extern blocks',
+          'syn_typed': 'items and members that are read alone'}
 WIDTH = 116
 HEAD = """# Types of the syntax tree
 
