@@ -1,0 +1,6 @@
+pub mod BlockForms
+pub mod ExprForms
+pub mod JumpParts
+pub mod Operands
+pub mod PatternParts
+pub mod StatementParts

@@ -1,0 +1,6 @@
+pub mod Constants
+pub mod Leaves
+pub mod Lists
+pub mod Literals
+pub mod Raws
+pub mod Sights
