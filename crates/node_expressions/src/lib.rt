@@ -9,6 +9,7 @@
 //! - `block`: blocks, and what runs them.
 //! - `branch`: expressions that choose.
 //! - `closure`: closures.
+//! - `expr`: expressions, each of one form.
 //! - `jump`: expressions that leave what runs.
 //! - `statement`: statements.
 #![tactic(auto)]
@@ -18,6 +19,7 @@ pub mod block;
 pub mod branch;
 pub mod call;
 pub mod closure;
+pub mod expr;
 pub mod jump;
 pub mod operator;
 pub mod statement;
@@ -33,6 +35,7 @@ pub use block::{
 pub use branch::{Arm, ExprIf, ExprLet, ExprMatch};
 pub use call::{ExprAwait, ExprCall, ExprField, ExprIndex, ExprMethodCall, ExprTry};
 pub use closure::{ClosureModifiers, ExprClosure};
+pub use expr::Expr;
 pub use jump::{ExprBreak, ExprContinue, ExprReturn, ExprYield};
 pub use operator::{
     ExprAssign, ExprBinary, ExprCast, ExprRange, ExprRawAddr, ExprReference, ExprUnary,

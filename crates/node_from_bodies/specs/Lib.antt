@@ -1,4 +1,3 @@
-pub mod BlockForms
 pub mod ExprForms
 pub mod JumpParts
 pub mod Operands

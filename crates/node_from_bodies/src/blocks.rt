@@ -1,10 +1,10 @@
 //! Blocks and what runs them: their forms, each without attributes in front.
 
-ghost use Rattle.node_from_bodies.specs.BlockForms.{block_form};
 ghost use Rattle.node_shapes.specs.Shape.{IsShaped};
 ghost use Rattle.node_views.specs.Expressions as views;
 ghost use Rattle.node_views.specs.Paths.{outer};
 ghost use Rattle.node_views.specs.Statements as statements;
+ghost use Rattle.node_words.specs.Blocks.{block_form};
 ghost use Rattle.node_words.specs.Words as words;
 ghost use Rattle.reader_tree.specs.Size.{node_count};
 ghost use Rattle.std.specs.Prelude.{[], ◌≡◌, ◌≤◌, IfOk};

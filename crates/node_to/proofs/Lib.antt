@@ -1,4 +1,5 @@
 pub mod Constants
+pub mod Ends
 pub mod Leaves
 pub mod Lists
 pub mod Literals

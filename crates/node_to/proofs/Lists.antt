@@ -7,7 +7,7 @@ use Rattle.reader_tree.specs.Forms.{elements, turns as in_turn}
 use Rattle.syn_grammar.specs.Tree as t
 use Rattle.syn_grammar.specs.Tree.{Tree}
 use Rattle.node_to.specs.Elements.{element_of}
-use Rattle.node_words.specs.Words.{listed, turns}
+use Rattle.node_words.specs.Words.{all_listed, listed, turns}
 
 -- a separator behind each value
 pub all_elements : {A P : Type 0} (c : ℕ) (f : A → Tree) (xs : List A) (ps : List P) → length xs ≤ length ps
@@ -40,6 +40,12 @@ last_of c f vs xs z ps e h l =
     let q : xs ++ z ∷ [] ≡ vs = ap (λ ys. ys ++ z ∷ []) e ∙ h in
     subst (λ ws. elements c (map (element_of f) xs) (t.Final (f z)) ≡ listed c f ws ps) q
     (last_element c f xs z ps (omega (arith, l, longer xs z, ap (λ ws. length ws) q)))
+
+-- a mark behind each of those that stand before another tree
+pub before_last : {A : Type 0} (c : ℕ) (f : A → Tree) (xs : List A) (y : Tree)
+    → elements c (map (element_of f) xs) y ≡ all_listed c f xs y
+before_last c f [] y = refl
+before_last c f (x ∷ xs) y = ap (λ w. t.More (f x) c Alone w) (before_last c f xs y)
 
 -- turns, of what they are made of
 pub turns_are : {A : Type 0} (f : A → Tree) (xs : List A) → in_turn (map f xs) ≡ turns f xs

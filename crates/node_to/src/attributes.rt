@@ -1,4 +1,4 @@
-//! Attributes, and tokens in what encloses them, as trees.
+//! Calls of macros and attributes as trees.
 
 ghost use Rattle.node_views.specs.Paths as views;
 ghost use Rattle.node_views.specs.Statements.{attributed, behind_outer};
@@ -9,13 +9,14 @@ ghost use Rattle.syn_grammar.specs.Kind as k;
 ghost use Rattle.syn_grammar.specs.Tree as t;
 
 use crate::leaf::sign;
-use crate::row::enclosed;
+use crate::row::{self, enclosed, whole};
 use crate::to_tree::ToTree;
 use crate::token::raw;
-use node_paths::attribute::{AttrStyle, Attribute};
-use node_paths::mac::MacroDelimiter;
+use node_paths::attribute::{AttrStyle, Attribute, Meta, MetaList, MetaNameValue};
+use node_paths::mac::{Macro, MacroDelimiter};
 use proc_macro2::tree::TokenStream;
 use reader_table::kind::Kind;
+use reader_table::part::Part;
 use reader_table::word::Sign;
 use reader_tree::arena::Arena;
 use reader_tree::made;
@@ -60,6 +61,71 @@ pub fn delimited<'a>(
         Kind::Delimited,
         closed(arena, delimiter, raw(arena, tokens)?)?,
     )
+}
+
+impl<E: ToTree> ToTree for Macro<E> {
+    ghost tree = { views.macro E.tree };
+
+    #[tactic(auto, unfolding(syn_kinds::specs::Table::marks, syn_kinds::specs::Table::sign))]
+    fn to_tree<'a>(&'a self, arena: &'a Arena) -> Result<Tree<'a>, AllocError> {
+        made::node(
+            arena,
+            Kind::AMacro,
+            row::three(
+                arena,
+                self.path.to_tree(arena)?,
+                sign(Sign::Not, &self.bang_token)?,
+                delimited(arena, &self.delimiter, &self.tokens)?,
+            )?,
+        )
+    }
+}
+
+// What an attribute holds: a path, and what stands behind it.
+fn meta_of<'a>(arena: &'a Arena, path: Tree<'a>, behind: Tree<'a>) -> Result<Tree<'a>, AllocError>
+    ensures { IfOk result (λ x. x ≡ t.Node k.Meta (t.Pair (t.Second path.entry) behind.entry)) }
+{
+    let both = made::pair(arena, made::second(arena, path)?, behind)?;
+    made::node(arena, Kind::Meta, both)
+}
+
+impl<E: ToTree> ToTree for MetaList<E> {
+    ghost tree = { views.meta_list E.tree };
+
+    fn to_tree<'a>(&'a self, arena: &'a Arena) -> Result<Tree<'a>, AllocError> {
+        let tokens = delimited(arena, &self.delimiter, &self.tokens)?;
+        let behind = made::first(arena, tokens)?;
+        meta_of(arena, self.path.to_tree(arena)?, behind)
+    }
+}
+
+impl<E: ToTree> ToTree for MetaNameValue<E> {
+    ghost tree = { views.meta_name_value E.tree };
+
+    #[tactic(auto, unfolding(syn_kinds::specs::Table::marks, syn_kinds::specs::Table::sign))]
+    fn to_tree<'a>(&'a self, arena: &'a Arena) -> Result<Tree<'a>, AllocError> {
+        let value = whole(arena, self.value.to_tree(arena)?)?;
+        let value = made::called(arena, Part::Value, value)?;
+        let kept = made::second(arena, value)?;
+        let both = made::pair(arena, sign(Sign::Eq, &self.eq_token)?, kept)?;
+        let behind = made::first_behind(arena, 1, both)?;
+        meta_of(arena, self.path.to_tree(arena)?, behind)
+    }
+}
+
+impl<E: ToTree> ToTree for Meta<E> {
+    ghost tree = { views.meta E.tree };
+
+    fn to_tree<'a>(&'a self, arena: &'a Arena) -> Result<Tree<'a>, AllocError> {
+        match self {
+            Meta::Path(path) => {
+                let behind = made::seconds(arena, 2, made::nil())?;
+                meta_of(arena, path.to_tree(arena)?, behind)
+            }
+            Meta::List(list) => list.to_tree(arena),
+            Meta::NameValue(pair) => pair.to_tree(arena),
+        }
+    }
 }
 
 // An attribute, in front or inside, of its `#` and its brackets.

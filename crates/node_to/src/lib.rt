@@ -9,7 +9,7 @@
 //! - `list`: elements with marks between them, and turns.
 //! - `sight`: what a tree is, where another is made by that.
 //! - `paths`: paths, their segments and arguments; `bounds`: bounds, and the lifetimes that they bind.
-//! - `attributes`: attributes, and tokens in what encloses them.
+//! - `attributes`: calls of macros, and attributes.
 //! - `types`: slices, arrays, tuples, types in parentheses, `!`, `_`, references and pointers.
 //! - `operators`: the operators of expressions.
 #![tactic(auto)]

@@ -4,6 +4,7 @@ ghost use Rattle.node_to.specs.Elements.{element_of};
 ghost use Rattle.node_words.specs.Words as words;
 ghost use Rattle.reader_table.specs.Ops.{separator_of};
 ghost use Rattle.std.specs.Prelude.{◌≡◌, IfOk, map};
+ghost use Rattle.syn_grammar.specs.Tree as t;
 ghost use Rattle.syn_grammar.specs.Tree.{Tree as GivenTree};
 ghost use Rattle.syn_lists.specs.Lists.{values};
 
@@ -126,6 +127,24 @@ pub fn listed<'a, T, W: Way<T>, const K: usize>(
     }
 }
 
+/// Values with a comma behind each, and another tree behind them.
+///
+/// # Errors
+///
+/// Where there is no memory for them.
+#[tactic(auto, using(crate::proofs::Lists::before_last))]
+pub fn all_listed<'a, T, W: Way<T>, const K: usize>(
+    arena: &'a Arena,
+    way: &W,
+    list: &'a Punctuated<T, Punctuation<K, 1>>,
+    last: Tree<'a>,
+) -> Result<Tree<'a>, AllocError>
+    ensures { IfOk result (λ x. x ≡ words.all_listed 44 W.tree list.now.values.items (t.Final last.entry)) }
+{
+    let before = elements(arena, way, list.as_slice(), list.separators())?;
+    made::elements(arena, Separator::Comma, before, Some(last))
+}
+
 /// Values with commas between them.
 ///
 /// # Errors
@@ -168,15 +187,35 @@ pub fn expressions<'a, T: ToTree, const K: usize>(
     listed(arena, Separator::Comma, &AsExpression, list)
 }
 
-// The trees that these values are.
-fn trees<'a, T: ToTree>(arena: &'a Arena, values: &'a [T]) -> Result<Vec<Tree<'a>>, AllocError>
-    ensures { IfOk result (λ ts. ts.items ≡ map T.tree values.now) }
+// The trees that these values are there.
+fn trees<'a, T, W: Way<T>>(
+    arena: &'a Arena,
+    way: &W,
+    values: &'a [T],
+) -> Result<Vec<Tree<'a>>, AllocError>
+    ensures { IfOk result (λ ts. ts.items ≡ map (W.tree) values.now) }
 {
     let mut each = Vec::new(arena.alloc());
     for value in values {
-        each.push(value.to_tree(arena)?)?;
+        each.push(way.make(arena, value)?)?;
     }
     Ok(each)
+}
+
+/// Values one behind the other, each in that way.
+///
+/// # Errors
+///
+/// Where there is no memory for them.
+#[tactic(auto, using(crate::proofs::Lists::turns_of))]
+pub fn turned<'a, T, W: Way<T>>(
+    arena: &'a Arena,
+    way: &W,
+    values: &'a [T],
+) -> Result<Tree<'a>, AllocError>
+    ensures { IfOk result (λ x. x ≡ words.turns W.tree values.now) }
+{
+    made::turns(arena, trees(arena, way, values)?)
 }
 
 /// Values one behind the other.
@@ -184,9 +223,8 @@ fn trees<'a, T: ToTree>(arena: &'a Arena, values: &'a [T]) -> Result<Vec<Tree<'a
 /// # Errors
 ///
 /// Where there is no memory for them.
-#[tactic(auto, using(crate::proofs::Lists::turns_of))]
 pub fn turns<'a, T: ToTree>(arena: &'a Arena, values: &'a [T]) -> Result<Tree<'a>, AllocError>
     ensures { IfOk result (λ x. x ≡ words.turns T.tree values.now) }
 {
-    made::turns(arena, trees(arena, values)?)
+    turned(arena, &AsItIs, values)
 }

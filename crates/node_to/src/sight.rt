@@ -1,6 +1,7 @@
 //! What a tree is, where something else is made of it by that.
 
-ghost use Rattle.node_to.specs.Sights.{called_parts, front_parts, group_parts, is_absent, is_nil, second_of};
+ghost use Rattle.node_to.specs.Sights.{called_parts, front_parts, group_parts, is_absent, is_end, is_nil};
+ghost use Rattle.node_to.specs.Sights.{second_of};
 ghost use Rattle.proc_macro2.specs.declared.delimiter.Delimiter.{Delimiter as GivenDelimiter};
 ghost use Rattle.reader_table.specs.Kinds.{kind_of};
 ghost use Rattle.reader_table.specs.Parts.{part_of};
@@ -186,5 +187,24 @@ pub fn is_absent(tree: &Tree<'_>) -> bool
     match tree.last() {
         Some(inner) => is_nil(inner),
         None => false,
+    }
+}
+
+/// Whether there is no turn, and no element.
+#[tactic(auto, using(crate::proofs::Sights::ends, crate::proofs::Ends::lists))]
+pub fn is_end(tree: &Tree<'_>) -> bool
+    ensures { result ≡ is_end tree.now }
+{
+    match &tree.form {
+        Form::End => true,
+        Form::Turns(turns) => match turns.each {
+            [] => true,
+            [_, ..] => false,
+        },
+        Form::Elements(list) => match list.before {
+            [] => list.last.is_none(),
+            [_, ..] => false,
+        },
+        _ => false,
     }
 }

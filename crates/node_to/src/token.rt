@@ -76,6 +76,27 @@ impl ToTree for Lit {
     }
 }
 
+/// A literal, as the token that it is.
+///
+/// # Errors
+///
+/// Where there is no memory for it.
+pub fn literal_of<'a>(arena: &'a Arena, lit: &'a Lit) -> Result<Tree<'a>, AllocError>
+    ensures { IfOk result (λ x. x ≡ views.lit_token lit.now) }
+{
+    match lit {
+        Lit::Bool(value) => value.to_tree(arena),
+        Lit::Str(x) => literal(arena, x.token()),
+        Lit::ByteStr(x) => literal(arena, x.token()),
+        Lit::CStr(x) => literal(arena, x.token()),
+        Lit::Byte(x) => literal(arena, x.token()),
+        Lit::Char(x) => literal(arena, x.token()),
+        Lit::Int(x) => literal(arena, x.token()),
+        Lit::Float(x) => literal(arena, x.token()),
+        Lit::Verbatim(x) => literal(arena, x),
+    }
+}
+
 impl ToTree for LitToken<IsStr> {
     ghost tree = { λ l. t.ALiteral (literal_text l.token) };
 

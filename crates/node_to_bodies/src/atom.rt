@@ -4,13 +4,14 @@ ghost use Rattle.node_views.specs.Expressions as views;
 ghost use Rattle.std.specs.Prelude.{◌≡◌, IfOk};
 
 use node_expressions::atom::{
-    ExprArray, ExprGroup, ExprInfer, ExprLit, ExprParen, ExprRepeat, ExprTuple,
+    ExprArray, ExprGroup, ExprInfer, ExprLit, ExprMacro, ExprParen, ExprPath, ExprRepeat, ExprTuple,
 };
 use node_to::attributes::attributed;
 use node_to::leaf::sign;
 use node_to::list::expressions;
 use node_to::row::{self, enclosed, whole};
 use node_to::to_tree::ToTree;
+use node_to_types::qualified::any_path;
 use proc_macro2::delimiter::Delimiter;
 use reader_table::kind::Kind;
 use reader_table::word::Sign;
@@ -31,6 +32,37 @@ pub fn expr_lit<'a, E: ToTree>(
     ensures { IfOk result (λ x. x ≡ views.expr_lit E.tree node.now) }
 {
     let form = made::alone(arena, Kind::ExprLit, node.lit.to_tree(arena)?)?;
+    attributed(arena, &node.attrs, form)
+}
+
+/// A path.
+///
+/// # Errors
+///
+/// Where there is no memory for it.
+pub fn expr_path<'a, E: ToTree>(
+    arena: &'a Arena,
+    node: &'a ExprPath<E>,
+) -> Result<Tree<'a>, AllocError>
+    ensures { IfOk result (λ x. x ≡ views.expr_path E.tree node.now) }
+{
+    let path = any_path(arena, &node.qself, &node.path)?;
+    let form = made::alone(arena, Kind::ExprPath, path)?;
+    attributed(arena, &node.attrs, form)
+}
+
+/// A call of a macro.
+///
+/// # Errors
+///
+/// Where there is no memory for it.
+pub fn expr_macro<'a, E: ToTree>(
+    arena: &'a Arena,
+    node: &'a ExprMacro<E>,
+) -> Result<Tree<'a>, AllocError>
+    ensures { IfOk result (λ x. x ≡ views.expr_macro E.tree node.now) }
+{
+    let form = made::alone(arena, Kind::ExprMacro, node.mac.to_tree(arena)?)?;
     attributed(arena, &node.attrs, form)
 }
 

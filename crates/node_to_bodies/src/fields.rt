@@ -1,0 +1,145 @@
+//! Structs and their fields as trees.
+
+ghost use Rattle.node_views.specs.Expressions as views;
+ghost use Rattle.std.specs.Prelude.{◌≡◌, IfOk};
+
+use node_expressions::atom::{ExprStruct, FieldValue};
+use node_to::attributes::{attributed, outer_attributes};
+use node_to::leaf::{sign, sign_or};
+use node_to::list::{Way, all_listed, listed};
+use node_to::row::{self, enclosed, whole};
+use node_to::to_tree::ToTree;
+use node_to_types::qualified::any_path;
+use reader_table::kind::Kind;
+use reader_table::op::Separator;
+use reader_table::part::Part;
+use reader_table::word::Sign;
+use reader_tree::arena::Arena;
+use reader_tree::made;
+use reader_tree::tree::Tree;
+use std::alloc::AllocError;
+use syn_leaf::member::Member;
+
+// A field and its value, or the field's name alone.
+#[tactic(auto, unfolding(syn_kinds::specs::Table::marks, syn_kinds::specs::Table::sign))]
+fn value_form<'a, E: ToTree>(
+    arena: &'a Arena,
+    node: &'a FieldValue<E>,
+) -> Result<Tree<'a>, AllocError>
+    ensures { IfOk result (λ x. x ≡ views.value_form E.tree node.now.member node.now.colon_token node.now.expr) }
+{
+    match &node.colon_token {
+        Some(token) => {
+            let value = whole(arena, node.expr.to_tree(arena)?)?;
+            let parts = row::three(
+                arena,
+                node.member.to_tree(arena)?,
+                sign(Sign::Colon, token)?,
+                made::called(arena, Part::Value, value)?,
+            )?;
+            made::second(arena, parts)
+        }
+        None => match &node.member {
+            Member::Named(name) => made::first(arena, name.to_tree(arena)?),
+            Member::Unnamed(_) => made::second(arena, node.member.to_tree(arena)?),
+        },
+    }
+}
+
+/// A field of a struct with its value.
+///
+/// # Errors
+///
+/// Where there is no memory for it.
+pub fn field_value<'a, E: ToTree>(
+    arena: &'a Arena,
+    node: &'a FieldValue<E>,
+) -> Result<Tree<'a>, AllocError>
+    ensures { IfOk result (λ x. x ≡ views.field_value E.tree node.now) }
+{
+    let attributes = outer_attributes(arena, &node.attrs)?;
+    let both = made::pair(arena, attributes, value_form(arena, node)?)?;
+    made::node(arena, Kind::FieldValue, both)
+}
+
+// The same, as one of the fields.
+fn a_field_value<'a, E: ToTree>(
+    arena: &'a Arena,
+    node: &'a FieldValue<E>,
+) -> Result<Tree<'a>, AllocError>
+    ensures { IfOk result (λ x. x ≡ views.a_field_value E.tree node.now) }
+{
+    let chosen = made::second(arena, field_value(arena, node)?)?;
+    made::node(arena, Kind::AFieldValue, chosen)
+}
+
+/// As one of the fields of a struct.
+#[derive(Clone, Copy)]
+pub struct AsField;
+
+impl<E: ToTree> Way<FieldValue<E>> for AsField {
+    ghost tree = { views.a_field_value E.tree };
+
+    fn make<'a>(&self, arena: &'a Arena, value: &'a FieldValue<E>) -> Result<Tree<'a>, AllocError> {
+        a_field_value(arena, value)
+    }
+}
+
+// What the other fields are taken from, if it is there.
+fn base<'a, E: ToTree>(arena: &'a Arena, rest: &'a Option<Box<E>>) -> Result<Tree<'a>, AllocError>
+    ensures { IfOk result (λ x. x ≡ views.base E.tree rest.now) }
+{
+    match rest {
+        None => made::first(arena, made::nil()),
+        Some(value) => made::second(arena, whole(arena, value.to_tree(arena)?)?),
+    }
+}
+
+// `..`, which is filled in, and what the other fields are taken from.
+#[tactic(auto, unfolding(syn_kinds::specs::Table::marks, syn_kinds::specs::Table::sign))]
+fn field_base<'a, E: ToTree>(
+    arena: &'a Arena,
+    node: &'a ExprStruct<E>,
+) -> Result<Tree<'a>, AllocError>
+    ensures { IfOk result (λ x. x ≡ views.field_base E.tree node.now.dot2_token node.now.rest) }
+{
+    let mark = sign_or(Sign::DotDot, &node.dot2_token)?;
+    let both = made::pair(arena, mark, base(arena, &node.rest)?)?;
+    let named = made::called(arena, Part::Base, both)?;
+    made::node(arena, Kind::AFieldValue, made::first(arena, named)?)
+}
+
+// The fields, and what the others are taken from, if that is there.
+fn fields_then<'a, E: ToTree>(
+    arena: &'a Arena,
+    node: &'a ExprStruct<E>,
+) -> Result<Tree<'a>, AllocError>
+    ensures { IfOk result (λ x. x ≡ views.fields_then E.tree node.now.fields node.now.dot2_token node.now.rest) }
+{
+    match (&node.dot2_token, &node.rest) {
+        (None, None) => listed(arena, Separator::Comma, &AsField, &node.fields),
+        _ => {
+            let ended = field_base(arena, node)?;
+            all_listed(arena, &AsField, &node.fields, ended)
+        }
+    }
+}
+
+/// A struct, of its path and its fields.
+///
+/// # Errors
+///
+/// Where there is no memory for it.
+pub fn expr_struct<'a, E: ToTree>(
+    arena: &'a Arena,
+    node: &'a ExprStruct<E>,
+) -> Result<Tree<'a>, AllocError>
+    ensures { IfOk result (λ x. x ≡ views.expr_struct E.tree node.now) }
+{
+    let path = any_path(arena, &node.qself, &node.path)?;
+    let path = made::alone(arena, Kind::ExprPath, path)?;
+    let group = enclosed(arena, &node.brace_token, fields_then(arena, node)?)?;
+    let fields = made::node(arena, Kind::FieldValues, made::first(arena, group)?)?;
+    let form = made::back(arena, path, Kind::ExprStruct, fields)?;
+    attributed(arena, &node.attrs, form)
+}
