@@ -1,6 +1,5 @@
-//! Nodes of trees that were read: patterns, the forms of expressions, and what is made of a node's struct.
+//! Nodes of trees that were read: patterns, and forms of expressions.
 //!
-//! - `form`: an expression by its form.
 //! - `lists`: what makes the elements of lists.
 //! - `literals`: literals, with or without a minus.
 //! - `names`: patterns that are names or literals.
@@ -15,7 +14,6 @@
 
 pub mod atoms;
 pub mod blocks;
-pub mod form;
 pub mod front;
 pub mod jumps;
 pub mod lists;
@@ -25,9 +23,9 @@ pub mod operators;
 pub mod params;
 pub mod patterns;
 
-ghost use Rattle.node_from_bodies.specs.ExprForms.{expr_form};
 ghost use Rattle.node_from_bodies.specs.StatementParts.{a_statement};
 ghost use Rattle.node_shapes.specs.Shape.{IsShaped};
+ghost use Rattle.node_views.specs.Expressions as expressions;
 ghost use Rattle.node_views.specs.Patterns as patterns;
 ghost use Rattle.node_views.specs.Statements as statements;
 ghost use Rattle.reader_tree.specs.Size.{node_count};
@@ -36,7 +34,7 @@ ghost use Rattle.syn_grammar.specs.Gram.{ref};
 ghost use Rattle.syn_grammar.specs.Kept.{kept};
 ghost use Rattle.syn_grammar.specs.Kind as k;
 
-use crate::form::ExprForm;
+use node_expressions::expr::Expr;
 use node_expressions::statement::Stmt;
 use node_from::Reader;
 use node_paths::attribute::Attribute;
@@ -47,8 +45,8 @@ use std::alloc::AllocError;
 /// What makes nodes of smaller trees, and of what a node is.
 pub trait Maker<E>: Reader<E> {
     /// The expression of a form.
-    fn expression(&self, form: ExprForm<E>) -> E
-        ensures { Self.view result ≡ expr_form Self.view form };
+    fn expression(&self, form: Expr<E>) -> E
+        ensures { Self.view result ≡ expressions.expr Self.view form };
 
     /// The pattern that one is.
     fn pattern(&self, pattern: Pat<E>) -> E

@@ -1,6 +1,5 @@
 //! Operators between operands, ranges, casts, `let` and raw pointers: their forms, each without attributes.
 
-ghost use Rattle.node_from_bodies.specs.ExprForms.{expr_form};
 ghost use Rattle.node_from_bodies.specs.Operands.{assigned, is_range, kept_of, MayBeMade, raw_words};
 ghost use Rattle.node_from_bodies.specs.Operands.{takes_operator};
 ghost use Rattle.node_take.specs.Forms.{between_kind};
@@ -15,8 +14,8 @@ ghost use Rattle.syn_grammar.specs.Table.{table};
 ghost use Rattle.syn_grammar.specs.Tree as t;
 
 use crate::Maker;
-use crate::form::ExprForm;
 use node_expressions::branch::ExprLet;
+use node_expressions::expr::Expr;
 use node_expressions::operator::{ExprAssign, ExprBinary, ExprCast, ExprRange, ExprRawAddr};
 use node_from::exprs::{compare_op, product_op, shift_op, sum_op};
 use node_from::{What, child};
@@ -237,20 +236,20 @@ fn assignment<E: Drop, R: Maker<E>>(
     left: Box<E>,
     own: &Tree<'_>,
     right: Box<E>,
-) -> ExprForm<E>
+) -> Expr<E>
     requires { IsShaped own.now (table k.ExprAssign) }
-    ensures { expr_form R.view result
+    ensures { views.expr R.view result
         ≡ t.Infix (R.view left.value) k.ExprAssign (kept own.now) (R.view right.value) }
 {
     let attrs = Vec::new(below.alloc());
     match assign_op(own) {
-        Assigned::Plainly(eq_token) => ExprForm::Assign(ExprAssign {
+        Assigned::Plainly(eq_token) => Expr::Assign(ExprAssign {
             attrs,
             left,
             eq_token,
             right,
         }),
-        Assigned::With(op) => ExprForm::Binary(ExprBinary {
+        Assigned::With(op) => Expr::Binary(ExprBinary {
             attrs,
             left,
             op,
@@ -266,16 +265,16 @@ pub fn infix<E: Drop, R: Maker<E>>(
     which: Between,
     own: &Tree<'_>,
     right: Box<E>,
-) -> ExprForm<E>
+) -> Expr<E>
     requires which { is_range which ≡ false }
     requires own { IsShaped own.now (table (between_kind which)) }
-    ensures { expr_form R.view result
+    ensures { views.expr R.view result
         ≡ t.Infix (R.view left.value) (between_kind which) (kept own.now) (R.view right.value) }
 {
     match which {
         Between::Range | Between::RangeClosed => unreachable!(),
         Between::Assign => assignment(below, left, own, right),
-        _ => ExprForm::Binary(ExprBinary {
+        _ => Expr::Binary(ExprBinary {
             attrs: Vec::new(below.alloc()),
             left,
             op: operator(which, own),
