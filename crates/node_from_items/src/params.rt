@@ -1,0 +1,230 @@
+//! Parameters of functions.
+
+ghost use Rattle.node_from_items.specs.Functions.{has_dots, param as param_view, receiver_type};
+ghost use Rattle.node_shapes.specs.Shape.{IsShaped};
+ghost use Rattle.node_views.specs.Functions as views;
+ghost use Rattle.node_words.specs.Words as words;
+ghost use Rattle.node_words.specs.Words.{◌▸◌};
+ghost use Rattle.proc_macro2.specs.Token.{Token};
+ghost use Rattle.reader_tree.specs.Size.{node_count};
+ghost use Rattle.node_from_items.specs.declared.params.Param.TheVariants as params;
+ghost use Rattle.std.specs.Prelude.{◌≡◌, ◌≤◌, Bool, IfOk, List, None, Option, Some, not, true};
+ghost use Rattle.syn_grammar.specs.Tree.{Tree as GivenTree};
+ghost use Rattle.syn_grammar.specs.Gram as g;
+ghost use Rattle.syn_grammar.specs.Items.{is_variadic};
+ghost use Rattle.syn_grammar.specs.Kept.{kept};
+ghost use Rattle.syn_grammar.specs.Kind as k;
+ghost use Rattle.syn_grammar.specs.Part.{each_but_last};
+ghost use Rattle.syn_grammar.specs.Tree as t;
+ghost use Rattle.syn_kinds.specs.declared.keyword.Keyword.{Keyword};
+
+use node_from::attributes::outer_attributes;
+use node_from::{Reader, What, child};
+use node_items::function::{FnArg, Receiver, ReceiverKind, Variadic};
+use node_paths::attribute::Attribute;
+use node_patterns::kinds::PatType;
+use node_take as take;
+use node_take::Listed;
+use reader_table::kind::Kind;
+use reader_tree::tree::Tree;
+use std::alloc::AllocError;
+use syn_kinds::punctuation::Punctuation;
+use syn_kinds::token;
+use syn_lists::Punctuated;
+
+// How a method takes what it is called on, where no `&` stands in front.
+#[tactic(auto, unfolding(syn_grammar::specs::Table::table, syn_grammar::specs::Kept::held, syn_kinds::specs::Table::marks, syn_kinds::specs::Table::sign, syn_kinds::specs::Table::word))]
+fn plain_kind<E: Drop, R: Reader<E>>(
+    below: &R,
+    tree: &Tree<'_>,
+) -> Result<ReceiverKind<E>, AllocError>
+    requires ready { R.ready below.now }
+    requires shaped { IsShaped tree.now receiver_type }
+    requires fewer { node_count tree.now ≤ R.bound below.now }
+    ensures { IfOk result (λ x. (o : Option (Keyword 28)) → (s : Keyword 35)
+        → views.receiver_of R.view x o s ≡ t.Second (words.optional words.keyword o ▸ words.keyword s
+        ▸ kept tree.now)) }
+{
+    match take::optional(tree) {
+        Some(behind) => {
+            let (colon_token, ty) = take::pair(behind);
+            let ty = child(below, What::WithPlus, ty)?;
+            Ok(ReceiverKind::Typed(take::sign(colon_token), ty))
+        }
+        None => Ok(ReceiverKind::Value),
+    }
+}
+
+/// What a method is called on, behind its attributes.
+///
+/// # Errors
+///
+/// Where there is no memory for it.
+#[tactic(auto, unfolding(syn_grammar::specs::Table::table, syn_grammar::specs::Kept::held, syn_kinds::specs::Table::marks, syn_kinds::specs::Table::sign, syn_kinds::specs::Table::word))]
+pub fn receiver<E: Drop, R: Reader<E>>(
+    below: &R,
+    attrs: Vec<Attribute<E>>,
+    tree: &Tree<'_>,
+) -> Result<Receiver<E>, AllocError>
+    requires ready { R.ready below.now }
+    requires shaped { IsShaped tree.now (g.ref k.Receiver) }
+    requires fewer { node_count tree.now ≤ R.bound below.now }
+    ensures form { IfOk result (λ x. views.receiver_form R.view x ≡ kept tree.now) }
+    ensures attributes { IfOk result (λ x. x.attrs ≡ attrs) }
+{
+    match take::alternative(1, take::node(Kind::Receiver, tree)) {
+        (0, own) => {
+            let (and_token, lifetime, mutability, self_token) = take::four(own);
+            let lifetime = take::optional_lifetime(lifetime)?;
+            let mutability = take::optional_keyword(mutability);
+            Ok(Receiver {
+                attrs,
+                mutability: None,
+                self_token: take::keyword(self_token),
+                kind: ReceiverKind::Reference(take::sign(and_token), lifetime, mutability),
+            })
+        }
+        (_, own) => {
+            let (mutability, self_token, behind) = take::three(own);
+            let kind = plain_kind(below, behind)?;
+            Ok(Receiver {
+                attrs,
+                mutability: take::optional_keyword(mutability),
+                self_token: take::keyword(self_token),
+                kind,
+            })
+        }
+    }
+}
+
+/// A parameter, or what takes any number of arguments more.
+#[derive(Drop)]
+pub enum Param<E> {
+    /// A parameter.
+    Arg(FnArg<E>),
+    /// Any number of arguments more.
+    Dots(Variadic<E>),
+}
+
+// Any number of arguments more, without a comma behind it.
+fn dots<E>(
+    attrs: Vec<Attribute<E>>,
+    pat: Option<(Box<E>, token::Colon)>,
+    dots: token::DotDotDot,
+) -> Param<E>
+    ensures { result ≡ params.Dots (record { attrs = attrs; pat = pat; dots = dots; comma = None }) }
+{
+    Param::Dots(Variadic {
+        attrs,
+        pat,
+        dots,
+        comma: None,
+    })
+}
+
+// The same with a comma behind it.
+fn followed<E>(variadic: Variadic<E>, comma: token::Comma) -> Variadic<E>
+    ensures view { (f : E → GivenTree) → views.variadic f result ≡ views.variadic f variadic }
+    ensures comma { result.comma ≡ Some comma }
+{
+    let Variadic {
+        attrs, pat, dots, ..
+    } = variadic;
+    Variadic {
+        attrs,
+        pat,
+        dots,
+        comma: Some(comma),
+    }
+}
+
+/// A parameter of a function. One that is a type alone gets the pattern `_`.
+///
+/// # Errors
+///
+/// Where there is no memory for it.
+#[tactic(auto, unfolding(syn_grammar::specs::Table::table, syn_grammar::specs::Kept::held, syn_kinds::specs::Table::marks, syn_kinds::specs::Table::sign, syn_kinds::specs::Table::word))]
+pub fn any_param<E: Drop, R: Reader<E>>(below: &R, tree: &Tree<'_>) -> Result<Param<E>, AllocError>
+    requires ready { R.ready below.now }
+    requires shaped { IsShaped tree.now (g.ref k.Parameter) }
+    requires fewer { node_count tree.now ≤ R.bound below.now }
+    ensures param { IfOk result (λ x. param_view R.view x ≡ kept tree.now) }
+    ensures dots { IfOk result (λ x. has_dots x ≡ is_variadic tree.now) }
+{
+    let (attrs, behind) = take::pair(take::node(Kind::Parameter, tree));
+    let attrs = outer_attributes(below, attrs)?;
+    let (which, own) = take::alternative(3, behind);
+    match which {
+        0 => Ok(Param::Arg(FnArg::Receiver(receiver(
+            below,
+            attrs,
+            take::called(own),
+        )?))),
+        1 => Ok(dots(attrs, None, take::sign(take::called(own)))),
+        2 => {
+            let ty = take::called(own);
+            Ok(Param::Arg(FnArg::Typed(PatType {
+                attrs,
+                pat: child(below, What::Wild, ty)?,
+                colon_token: Punctuation::default(),
+                ty: child(below, What::WithPlus, ty)?,
+            })))
+        }
+        _ => {
+            let (pattern, colon, behind) = take::three(own);
+            let pat = child(below, What::OnePattern, take::called(pattern))?;
+            let colon_token = take::sign(colon);
+            match take::alternative(1, behind) {
+                (0, own) => Ok(dots(
+                    attrs,
+                    Some((pat, colon_token)),
+                    take::sign(take::called(own)),
+                )),
+                (_, ty) => Ok(Param::Arg(FnArg::Typed(PatType {
+                    attrs,
+                    pat,
+                    colon_token,
+                    ty: child(below, What::WithPlus, take::called(ty))?,
+                }))),
+            }
+        }
+    }
+}
+
+/// The parameters of a function, and what takes any number of arguments more, if it stands behind them.
+///
+/// # Errors
+///
+/// Where there is no memory for them.
+#[tactic(auto, using(crate::proofs::ParamLists::lists))]
+pub fn params<E: Drop, R: Reader<E>>(
+    below: &R,
+    tree: &Tree<'_>,
+) -> Result<(Punctuated<FnArg<E>, token::Comma>, Option<Variadic<E>>), AllocError>
+    requires ready { R.ready below.now }
+    requires shaped { ((e : List Token → Bool) × IsShaped tree.now (g.many e 44 (g.ref k.Parameter))) }
+    requires last { each_but_last (λ x. not (is_variadic x)) tree.now ≡ true }
+    requires fewer { node_count tree.now ≤ R.bound below.now }
+    ensures { IfOk result (λ p. views.inputs R.view p.0 p.1 ≡ kept tree.now) }
+{
+    let Listed { before, last } = take::elements(',', tree);
+    let mut list = Punctuated::new(below.alloc());
+    for element in before {
+        let made = any_param(below, &element.tree)?;
+        let comma = Punctuation::new([element.spacing.span()]);
+        match made {
+            Param::Arg(arg) => {
+                list.push_value(arg)?;
+                list.push_punct(comma)?;
+            }
+            Param::Dots(variadic) => return Ok((list, Some(followed(variadic, comma)))),
+        }
+    }
+    if let Some(element) = last {
+        match any_param(below, element)? {
+            Param::Arg(arg) => list.push_value(arg)?,
+            Param::Dots(variadic) => return Ok((list, Some(variadic))),
+        }
+    }
+    Ok((list, None))
+}
