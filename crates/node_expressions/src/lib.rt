@@ -9,10 +9,7 @@
 //! - `block`: blocks, and what runs them.
 //! - `branch`: expressions that choose.
 //! - `closure`: closures.
-<<<<<<< ours
-=======
 //! - `convert` (private): structs as the enum that holds them.
->>>>>>> theirs
 //! - `expr`: expressions, each of one form.
 //! - `jump`: expressions that leave what runs.
 //! - `statement`: statements.
@@ -23,10 +20,7 @@ pub mod block;
 pub mod branch;
 pub mod call;
 pub mod closure;
-<<<<<<< ours
-=======
 mod convert;
->>>>>>> theirs
 pub mod expr;
 pub mod jump;
 pub mod operator;

@@ -9,7 +9,7 @@ use Rattle.syn_grammar.specs.Tree.{Tree}
 use Rattle.node_shapes.specs.Shape.{IsShaped}
 use Rattle.node_views.specs.Expressions.{else_operand}
 use Rattle.node_views.specs.Statements.{as_block, else_block}
-use Rattle.node_from_bodies.specs.BlockForms.{block_form}
+use Rattle.node_words.specs.Blocks.{block_form}
 
 pub behind_else : (x : Tree) → IsShaped x (ref k.Block) → else_operand (block_form (kept x)) ≡ t.Second (kept x)
 unfolding held table

@@ -15,7 +15,7 @@ use Rattle.node_shapes.specs.Shape.{IsShaped}
 use Rattle.node_views.specs.Expressions.{closure}
 use Rattle.node_views.specs.Paths.{return_type}
 use Rattle.node_views.specs.Statements.{as_block}
-use Rattle.node_from_bodies.specs.BlockForms.{block_form}
+use Rattle.node_words.specs.Blocks.{block_form}
 use Rattle.node_from_forms.proofs.BlockForms.{as_body}
 
 no_type : (h r b : Tree) → IsShaped r (ref (k.ReturnType k.WithPlus))

@@ -1,11 +1,7 @@
 //! Parameters of items, and the conditions on them.
 
-<<<<<<< ours
-ghost use Rattle.node_from_generics.specs.Generics.{conditions, const_value as const_gram, optional_const, optional_type};
-=======
 ghost use Rattle.node_from_generics.specs.Generics.{conditions, const_value as const_gram, optional_const};
 ghost use Rattle.node_from_generics.specs.Generics.{optional_type};
->>>>>>> theirs
 ghost use Rattle.node_from_generics.specs.Generics.{predicate_lifetime, predicate_type, where_part};
 ghost use Rattle.node_shapes.specs.Shape.{IsShaped};
 ghost use Rattle.node_views.specs.Generics as views;
