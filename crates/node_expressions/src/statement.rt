@@ -27,7 +27,7 @@ pub struct Local<E> {
     /// What stands beside its parts: nothing.
     pub modifiers: LocalModifiers,
     /// The pattern, with its type `Pat::Type`.
-    pub pat: Box<E>,
+    pub pat: E,
     /// What it becomes at first, if that is written.
     pub init: Option<LocalInit<E>>,
     /// `;`

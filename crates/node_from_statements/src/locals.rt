@@ -35,18 +35,18 @@ fn local_pattern<E: Drop, R: Maker<E>>(
     below: &R,
     pattern: &Tree<'_>,
     ty: &Tree<'_>,
-) -> Result<Box<E>, AllocError>
+) -> Result<E, AllocError>
     requires ready { R.ready below.now }
     requires pattern { IsShaped pattern.now (g.ref k.OnePattern) }
     requires ty { IsShaped ty.now typed }
     requires pattern_fewer { node_count pattern.now < R.bound below.now }
     requires type_fewer { node_count ty.now ≤ R.bound below.now }
-    ensures { IfOk result (λ x. (y : GivenTree) → views.let_pattern (R.view x.value) y
+    ensures { IfOk result (λ x. (y : GivenTree) → views.let_pattern (R.view x) y
         ≡ t.Pair (kept pattern.now) (t.Pair (kept ty.now) y)) }
 {
-    let pat = child(below, What::OnePattern, pattern)?;
     match take::optional(ty) {
         Some(behind) => {
+            let pat = child(below, What::OnePattern, pattern)?;
             let (colon_token, ty) = take::pair(behind);
             let ty = child(below, What::WithPlus, take::called(ty))?;
             let typed = Pat::Type(PatType {
@@ -55,9 +55,9 @@ fn local_pattern<E: Drop, R: Maker<E>>(
                 colon_token: take::sign(colon_token),
                 ty,
             });
-            Ok(Box::new(below.alloc(), below.pattern(typed))?)
+            Ok(below.pattern(typed))
         }
-        None => Ok(pat),
+        None => below.node(What::OnePattern, pattern),
     }
 }
 

@@ -113,7 +113,7 @@ fn behind_pattern<'a, E: ToTree>(
 
 // The pattern of a variable, and what stands behind it.
 fn declared<'a, E: ToTree>(arena: &'a Arena, node: &'a Local<E>) -> Result<Tree<'a>, AllocError>
-    ensures { IfOk result (λ x. x ≡ views.let_pattern (E.tree node.now.pat.value)
+    ensures { IfOk result (λ x. x ≡ views.let_pattern (E.tree node.now.pat)
         (t.Pair (words.optional (views.local_init E.tree) node.now.init) (words.mark node.now.semi_token))) }
 {
     let pattern = node.pat.to_tree(arena)?;
