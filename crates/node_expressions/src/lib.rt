@@ -12,6 +12,7 @@
 //! - `convert` (private): structs as the enum that holds them.
 //! - `expr`: expressions, each of one form.
 //! - `jump`: expressions that leave what runs.
+//! - `placeholder` (private): an expression where none is known yet.
 //! - `statement`: statements.
 #![tactic(auto)]
 
@@ -24,6 +25,7 @@ mod convert;
 pub mod expr;
 pub mod jump;
 pub mod operator;
+mod placeholder;
 pub mod statement;
 
 pub use atom::{
