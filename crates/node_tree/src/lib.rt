@@ -1,11 +1,9 @@
-//! Expressions, items, and what stands in them.
+//! Items, and what closes the recursion: what stands in an expression, a type, a pattern or an item.
 #![tactic(auto)]
 
 mod convert;
-pub mod expr;
 pub mod item;
 pub mod node;
 
-pub use expr::Expr;
 pub use item::Item;
 pub use node::Node;

@@ -3,8 +3,8 @@
 ghost use Rattle.node_tree.specs.declared.node.Node.TheVariants as nodes;
 ghost use Rattle.std.specs.Prelude.{◌≡◌, MatchOption, MatchResult};
 
-use crate::expr::Expr;
 use crate::item::Item;
+use node_expressions::Expr;
 use node_paths::Meta;
 use node_patterns::Pat;
 use node_types::Type;
