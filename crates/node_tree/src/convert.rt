@@ -1,5 +1,6 @@
 //! Structs as the enums that hold them.
 
+ghost use Rattle.node_tree.specs.DerivedItems.{item_of};
 ghost use Rattle.node_tree.specs.declared.item.Item.TheVariants as items;
 ghost use Rattle.node_tree.specs.declared.node.Node.TheVariants as nodes;
 ghost use Rattle.std.specs.Prelude.{◌≡◌};
@@ -8,8 +9,9 @@ use crate::item::Item;
 use crate::node::Node;
 use node_expressions::Expr;
 use node_items::{
-    ItemConst, ItemEnum, ItemExternCrate, ItemFn, ItemForeignMod, ItemImpl, ItemMacro, ItemMod,
-    ItemStatic, ItemStruct, ItemTrait, ItemTraitAlias, ItemType, ItemUnion, ItemUse,
+    Data, DataEnum, DataStruct, DataUnion, DeriveInput, ItemConst, ItemEnum, ItemExternCrate,
+    ItemFn, ItemForeignMod, ItemImpl, ItemMacro, ItemMod, ItemStatic, ItemStruct, ItemTrait,
+    ItemTraitAlias, ItemType, ItemUnion, ItemUse,
 };
 use node_patterns::Pat;
 use node_types::Type;
@@ -123,7 +125,7 @@ impl From<ItemTraitAlias<Node>> for Item {
 }
 
 impl From<ItemType<Node>> for Item {
-    ghost from_gives = { λ node made. made ≡ items.Type node };
+    ghost from_gives = { λ node made. made ≡ items.«Type» node };
 
     /// The same as an item.
     fn from(node: ItemType<Node>) -> Item {
@@ -149,6 +151,60 @@ impl From<ItemUse<Node>> for Item {
     }
 }
 
+impl From<DeriveInput<Node>> for Item {
+    ghost from_gives = { λ input made. made ≡ item_of input input.«data» };
+
+    /// The same as an item: a struct, an enum or a union.
+    fn from(input: DeriveInput<Node>) -> Item {
+        let DeriveInput {
+            attrs,
+            vis,
+            ident,
+            generics,
+            data,
+        } = input;
+        match data {
+            Data::Struct(DataStruct {
+                struct_token,
+                fields,
+                semi_token,
+            }) => Item::Struct(ItemStruct {
+                attrs,
+                vis,
+                struct_token,
+                ident,
+                generics,
+                fields,
+                semi_token,
+            }),
+            Data::Enum(DataEnum {
+                enum_token,
+                brace_token,
+                variants,
+            }) => Item::Enum(ItemEnum {
+                attrs,
+                vis,
+                enum_token,
+                ident,
+                generics,
+                brace_token,
+                variants,
+            }),
+            Data::Union(DataUnion {
+                union_token,
+                fields,
+            }) => Item::Union(ItemUnion {
+                attrs,
+                vis,
+                union_token,
+                ident,
+                generics,
+                fields,
+            }),
+        }
+    }
+}
+
 impl From<Expr<Node>> for Node {
     ghost from_gives = { λ node made. made ≡ nodes.Expr node };
 
@@ -168,7 +224,7 @@ impl From<Pat<Node>> for Node {
 }
 
 impl From<Type<Node>> for Node {
-    ghost from_gives = { λ node made. made ≡ nodes.Type node };
+    ghost from_gives = { λ node made. made ≡ nodes.«Type» node };
 
     /// What may stand inside another, of a type.
     fn from(node: Type<Node>) -> Node {
