@@ -18,7 +18,7 @@ pub struct Block<E> {
 }
 
 /// What stands beside the parts of a block: nothing.
-#[derive(Clone, Copy, Default)]
+#[derive(Clone, Copy, PartialEq, Eq, Default)]
 pub struct BlockModifiers {}
 
 impl BlockModifiers {
@@ -35,7 +35,7 @@ impl BlockModifiers {
 }
 
 /// The label of a block or a loop: `'outer:`.
-#[derive(Drop)]
+#[derive(Drop, PartialEq, Eq)]
 pub struct Label {
     /// Its name.
     pub name: Lifetime,

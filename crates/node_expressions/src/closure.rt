@@ -39,7 +39,7 @@ pub struct ExprClosure<E> {
 }
 
 /// What stands beside the parts of a closure: nothing.
-#[derive(Clone, Copy, Default)]
+#[derive(Clone, Copy, PartialEq, Eq, Default)]
 pub struct ClosureModifiers {}
 
 impl ClosureModifiers {

@@ -49,7 +49,7 @@ pub struct LocalInit<E> {
 }
 
 /// What stands beside the parts of a variable: nothing.
-#[derive(Clone, Copy, Default)]
+#[derive(Clone, Copy, PartialEq, Eq, Default)]
 pub struct LocalModifiers {}
 
 impl LocalModifiers {

@@ -60,7 +60,7 @@ pub struct Field<E> {
 }
 
 /// What stands beside the parts of a field: nothing.
-#[derive(Clone, Copy, Default)]
+#[derive(Clone, Copy, PartialEq, Eq, Default)]
 pub struct FieldModifiers {}
 
 impl FieldModifiers {

@@ -75,7 +75,7 @@ impl<E> Signature<E> {
 }
 
 /// Whether a function or a foreign item is declared unsafe, or safe.
-#[derive(Clone, Copy)]
+#[derive(Clone, Copy, PartialEq, Eq)]
 pub enum Safety {
     /// It is declared safe.
     Safe(token::Safe),

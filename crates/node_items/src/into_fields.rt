@@ -2,8 +2,9 @@
 
 ghost use Rattle.node_items.specs.FieldLists.{fields_of};
 ghost use Rattle.node_items.specs.FieldsTaken.{fields_taken};
-ghost use Rattle.std.specs.Iterator.{YieldsFirst, YieldsLast, item_count};
-ghost use Rattle.std.specs.Prelude.{◌≡◌};
+ghost use Rattle.std.specs.Iterator.SizeHint.{IsExactHint, IsWithinCount};
+ghost use Rattle.std.specs.Iterator.{UpTo, YieldsFirst, YieldsLast, item_count};
+ghost use Rattle.std.specs.Prelude.{◌≡◌, IfSome, length};
 
 use crate::data::{Field, Fields};
 use syn_lists::iter::IntoIter;
@@ -27,6 +28,17 @@ impl<E: Drop> Iterator for IntoFields<E> {
             None => None,
         }
     }
+
+    fn size_hint(&self) -> (usize, Option<usize>)
+        ensures lower { IsWithinCount result.0 (item_count fields_taken self.now) }
+        ensures upper { IfSome result.1 (UpTo (item_count fields_taken self.now)) }
+        ensures exact { IsExactHint result (length (fields_taken self.now)) }
+    {
+        match &self.rest {
+            Some(rest) => rest.size_hint(),
+            None => (0, Some(0)),
+        }
+    }
 }
 
 impl<E: Drop> DoubleEndedIterator for IntoFields<E> {
@@ -36,6 +48,15 @@ impl<E: Drop> DoubleEndedIterator for IntoFields<E> {
         match &mut self.rest {
             Some(rest) => rest.next_back(),
             None => None,
+        }
+    }
+}
+
+impl<E: Drop> ExactSizeIterator for IntoFields<E> {
+    fn len(&self) -> usize {
+        match &self.rest {
+            Some(rest) => rest.len(),
+            None => 0,
         }
     }
 }

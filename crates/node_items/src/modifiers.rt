@@ -12,28 +12,28 @@ use syn_kinds::keyword::Keyword;
 use syn_kinds::token;
 
 /// What may stand in front of a constant.
-#[derive(Clone, Copy, Default)]
+#[derive(Clone, Copy, PartialEq, Eq, Default)]
 pub struct ConstModifiers {
     /// `default`, if it is there.
     pub defaultness: Option<token::Default>,
 }
 
 /// What may stand in front of a function.
-#[derive(Clone, Copy, Default)]
+#[derive(Clone, Copy, PartialEq, Eq, Default)]
 pub struct FnModifiers {
     /// `default`, if it is there.
     pub defaultness: Option<token::Default>,
 }
 
 /// What may stand in front of a type.
-#[derive(Clone, Copy, Default)]
+#[derive(Clone, Copy, PartialEq, Eq, Default)]
 pub struct TypeModifiers {
     /// `default`, if it is there.
     pub defaultness: Option<token::Default>,
 }
 
 /// What may stand in front of an impl, and in front of its trait.
-#[derive(Clone, Copy, Default)]
+#[derive(Clone, Copy, PartialEq, Eq, Default)]
 pub struct ImplModifiers {
     /// `default`, if it is there.
     pub defaultness: Option<token::Default>,
@@ -42,7 +42,7 @@ pub struct ImplModifiers {
 }
 
 /// What may stand in front of a trait.
-#[derive(Clone, Copy, Default)]
+#[derive(Clone, Copy, PartialEq, Eq, Default)]
 pub struct TraitModifiers {
     /// `auto`, if it is there.
     pub auto_token: Option<token::Auto>,
