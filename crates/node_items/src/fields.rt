@@ -2,7 +2,7 @@
 
 ghost use Rattle.node_items.specs.FieldLists.{fields_of};
 ghost use Rattle.node_items.specs.FieldsLent.{lends_fields};
-ghost use Rattle.node_items.specs.MembersLeft.{fields_left};
+ghost use Rattle.node_items.specs.MembersLeft.{fields_before, fields_left};
 ghost use Rattle.std.specs.Borrow.{sem};
 ghost use Rattle.std.specs.Prelude.{[], ◌<◌, ◌^◌, ◌≡◌, ◌↔◌, IsTrue, length};
 ghost use Rattle.syn_lists.specs.Left.{iter_left, iter_mut_left};
@@ -65,7 +65,7 @@ impl<E> Fields<E> {
     pub fn members(&self) -> Members<'_, E>
         requires { length (fields_of self.now) < 2 ^ 32 }
         ensures fields { fields_left result ≡ fields_of self.now }
-        ensures start { result.index ≡ 0 }
+        ensures start { fields_before result ≡ 0 }
     {
         Members {
             rest: self.as_slice(),
