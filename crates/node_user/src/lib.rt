@@ -1,7 +1,8 @@
 //! What a user does with nodes.
 #![tactic(auto)]
 
-use node_tree::{Expr, Item, Node};
+use node_expressions::Expr;
+use node_tree::{Item, Node};
 
 /// Lets an expression go.
 pub fn let_go(_: Expr<Node>) {}
