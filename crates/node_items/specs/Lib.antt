@@ -1,7 +1,6 @@
 pub mod Derived
 pub mod FieldLists
 pub mod FieldMembers
-pub mod FieldsLent
 pub mod FieldsTaken
 pub mod MembersLeft
 pub mod Modifiers

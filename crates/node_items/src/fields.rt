@@ -1,9 +1,7 @@
 //! The fields of a struct or of a variant, one by one.
 
 ghost use Rattle.node_items.specs.FieldLists.{fields_of};
-ghost use Rattle.node_items.specs.FieldsLent.{lends_fields};
 ghost use Rattle.node_items.specs.MembersLeft.{fields_before, fields_left};
-ghost use Rattle.std.specs.Borrow.{sem};
 ghost use Rattle.std.specs.Prelude.{[], ◌<◌, ◌^◌, ◌≡◌, ◌↔◌, IsTrue, length};
 ghost use Rattle.syn_lists.specs.Left.{iter_left, iter_mut_left};
 
@@ -48,15 +46,14 @@ impl<E> Fields<E> {
         }
     }
 
-    /// The fields, in order, to be changed: they are then what was written last through each of them.
+    /// The fields, in order, to be changed.
     pub fn iter_mut(&mut self) -> IterMut<'_, Field<E>>
-        ensures* writes_back { sem 𝓛 (lends_fields E.row self.entry result) }
-        ensures fields { iter_mut_left result ≡ fields_of self.old }
+        ensures { iter_mut_left result ≡ fields_of self.old }
     {
         match self {
-            Fields::Named(fields) => fields.named.iter_mut(),
-            Fields::Unnamed(fields) => fields.unnamed.iter_mut(),
-            Fields::Unit => IterMut::empty(),
+            Fields::Named(fields) => return fields.named.iter_mut(),
+            Fields::Unnamed(fields) => return fields.unnamed.iter_mut(),
+            Fields::Unit => return IterMut::empty(),
         }
     }
 
@@ -93,10 +90,7 @@ impl<'a, E> IntoIterator for &'a mut Fields<E> {
 
     ghost into_iter_gives = { λ fields it. iter_mut_left it ≡ fields_of fields.now };
 
-    fn into_iter(self) -> IterMut<'a, Field<E>>
-        ensures* writes_back { sem 𝓛 (lends_fields E.row self.entry result) }
-        ensures into_iter_gives { iter_mut_left result ≡ fields_of self.old }
-    {
+    fn into_iter(self) -> IterMut<'a, Field<E>> {
         self.iter_mut()
     }
 }
