@@ -1,5 +1,5 @@
 -- What a field is named by, and where the first token of its type stands.
-use Rattle.std.specs.Prelude.{◌≡◌, ℕ, List, [], ◌∷◌, Option, Some, None}
+use Rattle.std.specs.Prelude.{◌≡◌, ℕ, List, [], ◌∷◌, Option, Some, None, get_or}
 use Rattle.rust_leaf.specs.Leaf.{ident_span}
 use Rattle.rust_leaf.specs.declared.ident.Ident.{Ident}
 use Rattle.rust_map.specs.Spans.{call_site}
@@ -22,8 +22,7 @@ use Rattle.node_types.specs.declared.«Type».{«Type» as Type'}
 
 -- where the first mark of a punctuation stands
 abbrev pub first_of : List Span → Span
-first_of [] = call_site
-first_of (s ∷ ss) = s
+first_of ss = get_or ss 0 call_site
 
 -- where a path starts; one of no token does so nowhere, which is the call site
 abbrev pub segments_place : {E : Type 0} → List (PathSegment E) → Span
