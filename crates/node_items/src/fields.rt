@@ -40,9 +40,9 @@ impl<E> Fields<E> {
         ensures { iter_left result ≡ fields_of self.now }
     {
         match self {
-            Fields::Named(fields) => fields.named.iter(),
-            Fields::Unnamed(fields) => fields.unnamed.iter(),
-            Fields::Unit => Iter::empty(),
+            Fields::Named(fields) => return fields.named.iter(),
+            Fields::Unnamed(fields) => return fields.unnamed.iter(),
+            Fields::Unit => return Iter::empty(),
         }
     }
 
