@@ -154,7 +154,7 @@ pub fn impl_item_macro<'a, E: ToTree>(
 {
     let name = made::nil();
     let form = macro_form(arena, Place::InImpl, &node.mac, name, &node.semi_token)?;
-    let item = made::seconds(arena, 3, form)?;
+    let item = made::first_behind(arena, 3, form)?;
     impl_item_form(arena, &node.attrs, private(arena)?, absent(arena)?, item)
 }
 

@@ -157,7 +157,7 @@ pub fn trait_item_macro<'a, E: ToTree>(
 {
     let name = made::nil();
     let form = macro_form(arena, Place::InTrait, &node.mac, name, &node.semi_token)?;
-    trait_item_of(arena, &node.attrs, made::seconds(arena, 3, form)?)
+    trait_item_of(arena, &node.attrs, made::first_behind(arena, 3, form)?)
 }
 
 /// An item of a trait.
