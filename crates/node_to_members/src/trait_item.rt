@@ -176,9 +176,7 @@ pub fn trait_item<'a, E: ToTree>(
         TraitItem::Fn(inner) => trait_item_fn(arena, inner),
         TraitItem::Type(inner) => trait_item_type(arena, inner),
         TraitItem::Macro(inner) => trait_item_macro(arena, inner),
-        TraitItem::Verbatim(tokens) => {
-            made::node(arena, Kind::ATraitItem, raw(arena, tokens)?)
-        }
+        TraitItem::Verbatim(tokens) => { made::node(arena, Kind::ATraitItem, raw(arena, tokens)?) }
     }
 }
 
