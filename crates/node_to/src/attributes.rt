@@ -7,6 +7,7 @@ ghost use Rattle.reader_tree.specs.Forms.{turns as in_turn};
 ghost use Rattle.std.specs.Prelude.{◌≡◌, IfOk, map};
 ghost use Rattle.syn_grammar.specs.Kind as k;
 ghost use Rattle.syn_grammar.specs.Tree as t;
+ghost use Rattle.syn_grammar.specs.Tree.{Tree as GivenTree};
 
 use crate::leaf::sign;
 use crate::row::{self, enclosed, whole};
@@ -278,10 +279,11 @@ fn behind<'a>(
 pub fn attributed<'a, E: ToTree>(
     arena: &'a Arena,
     attributes: &'a [Attribute<E>],
-    form: Tree<'a>,
+    form: Result<Tree<'a>, AllocError>,
 ) -> Result<Tree<'a>, AllocError>
-    ensures { IfOk result (λ x. x ≡ attributed E.tree attributes.now form.entry) }
+    ensures { (x : GivenTree) → IfOk form.entry (λ r. r ≡ x)
+        → IfOk result (λ r. r ≡ attributed E.tree attributes.now x) }
 {
     let each = arena.put_all(outer(arena, attributes)?)?;
-    behind(arena, each, form)
+    behind(arena, each, form?)
 }
