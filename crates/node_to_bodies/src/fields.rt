@@ -104,7 +104,7 @@ fn base<'a, E: ToTree>(arena: &'a Arena, rest: &'a Option<Box<E>>) -> Result<Tre
     ensures { IfOk result (λ x. x ≡ views.base E.tree rest.now) }
 {
     match rest {
-        None => first(arena, Ok(made::nil())),
+        None => made::first(arena, made::nil()),
         Some(value) => second(arena, expression(arena, value.to_tree(arena))),
     }
 }

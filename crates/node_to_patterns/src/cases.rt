@@ -105,7 +105,7 @@ fn all_cases<'a, E: ToTree>(
     ensures { IfOk result (λ x. x ≡ views.cases E.tree patterns.now separators.now) }
 {
     match patterns {
-        [] => pair(arena, Ok(made::nil()), Ok(made::no_turns())),
+        [] => made::pair(arena, made::nil(), made::no_turns()),
         [pattern, others @ ..] => before_others(arena, pattern, others, separators),
     }
 }

@@ -1,0 +1,4 @@
+use Rattle.node_to_blocks.proofs.block.expr_block.Goals as goal
+
+pub returns : goal.returns
+returns g c = c.attributed.ensures _ (c.alone.ensures _ (c.pair-own.ensures _ _ c.label.ensures c.body-body.ensures))
