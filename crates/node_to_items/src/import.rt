@@ -139,7 +139,11 @@ fn path<'a>(
 ) -> Result<Tree<'a>, AllocError>
     ensures { IfOk result (λ x. x ≡ import_branch is_top (t.Second (path_before node.now below.entry))) }
 {
-    branch(arena, is_top, second(arena, path_before(arena, node, below)))
+    branch(
+        arena,
+        is_top,
+        second(arena, path_before(arena, node, below)),
+    )
 }
 
 // A name alone as an import.
@@ -183,10 +187,7 @@ fn braces<'a>(
 }
 
 // An import in braces that no path stands before.
-fn top<'a>(
-    arena: &'a Arena,
-    tree: Result<Tree<'a>, AllocError>,
-) -> Result<Tree<'a>, AllocError>
+fn top<'a>(arena: &'a Arena, tree: Result<Tree<'a>, AllocError>) -> Result<Tree<'a>, AllocError>
     ensures { (x : GivenTree) → IfOk tree.entry (λ r. r ≡ x)
         → IfOk result (λ r. r ≡ t.Node k.UseTop (t.Second x)) }
 {

@@ -11,9 +11,7 @@ use crate::item::{item_of, private};
 use node_items::mac::ItemMacro;
 use node_paths::mac::{Macro, MacroDelimiter};
 use node_to::leaf::{given_sign, name_or, sign};
-use node_to::step::{
-    self, absent, alternative, called, enclosed, first, four, pair, second,
-};
+use node_to::step::{self, absent, alternative, called, enclosed, first, four, pair, second};
 use node_to::to_tree::ToTree;
 use node_to::token::raw;
 use reader_table::kind::{Kind, Place};

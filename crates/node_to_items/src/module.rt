@@ -12,9 +12,7 @@ use node_paths::attribute::Attribute;
 use node_to::attributes::inner_attributes;
 use node_to::leaf::{name_or, sign, sign_or};
 use node_to::list::turns;
-use node_to::step::{
-    self, absent, alternative, called, enclosed, first, five, four, pair, second,
-};
+use node_to::step::{self, absent, alternative, called, enclosed, first, five, four, pair, second};
 use node_to::to_tree::ToTree;
 use node_to_types::visibility::visibility;
 use reader_table::kind::Kind;

@@ -17,9 +17,7 @@ use node_patterns::kinds::PatType;
 use node_to::attributes::outer_attributes;
 use node_to::leaf::{optional, sign};
 use node_to::list::{Way, listed};
-use node_to::step::{
-    self, absent, alternative, called, first, four, last, pair, second, three,
-};
+use node_to::step::{self, absent, alternative, called, first, four, last, pair, second, three};
 use node_to::to_tree::ToTree;
 use reader_table::kind::Kind;
 use reader_table::op::Separator;
@@ -178,10 +176,7 @@ impl<E: ToTree> Way<FnArg<E>> for AsParameter {
 
 // `...`
 #[tactic(auto, unfolding(syn_kinds::specs::Table::marks, syn_kinds::specs::Table::sign))]
-fn named_dots<'a>(
-    arena: &'a Arena,
-    dots: &token::DotDotDot,
-) -> Result<Tree<'a>, AllocError>
+fn named_dots<'a>(arena: &'a Arena, dots: &token::DotDotDot) -> Result<Tree<'a>, AllocError>
     ensures { IfOk result (λ x. x ≡ t.Called n.the_dots (words.mark dots.now)) }
 {
     called(arena, Part::Dots, sign(Sign::DotDotDot, dots))
@@ -213,9 +208,7 @@ fn dots<'a, E: ToTree>(arena: &'a Arena, node: &'a Variadic<E>) -> Result<Tree<'
 {
     match &node.pat {
         None => alternative(arena, 1, named_dots(arena, &node.dots)),
-        Some((pattern, colon_token)) => {
-            behind_pattern(arena, pattern, colon_token, &node.dots)
-        }
+        Some((pattern, colon_token)) => { behind_pattern(arena, pattern, colon_token, &node.dots) }
     }
 }
 

@@ -113,7 +113,14 @@ pub fn foreign_item_type<'a, E: ToTree>(
         end,
         semi_token: &node.semi_token,
     };
-    let form = alias_form(arena, Place::InForeign, word, &node.ident, generics, defined);
+    let form = alias_form(
+        arena,
+        Place::InForeign,
+        word,
+        &node.ident,
+        generics,
+        defined,
+    );
     let item = alternative(arena, 2, called(arena, Part::Item, form));
     foreign_item_of(arena, &node.attrs, visibility(arena, &node.vis), item)
 }

@@ -97,7 +97,13 @@ pub fn impl_item_const<'a, E: ToTree>(
     let form = const_form(arena, &node.const_token, &node.ident, typed);
     let item = alternative(arena, 1, form);
     let default = defaultness(arena, &node.modifiers.defaultness);
-    impl_item_form(arena, &node.attrs, visibility(arena, &node.vis), default, item)
+    impl_item_form(
+        arena,
+        &node.attrs,
+        visibility(arena, &node.vis),
+        default,
+        item,
+    )
 }
 
 /// A function of an impl.
@@ -115,7 +121,13 @@ pub fn impl_item_fn<'a, E: ToTree>(
     let form = function(arena, Place::InImpl, signature(arena, &node.sig), body);
     let item = alternative(arena, 0, form);
     let default = defaultness(arena, &node.modifiers.defaultness);
-    impl_item_form(arena, &node.attrs, visibility(arena, &node.vis), default, item)
+    impl_item_form(
+        arena,
+        &node.attrs,
+        visibility(arena, &node.vis),
+        default,
+        item,
+    )
 }
 
 /// A type of an impl.
@@ -139,7 +151,13 @@ pub fn impl_item_type<'a, E: ToTree>(
     let form = alias_form(arena, Place::InImpl, word, &node.ident, generics, defined);
     let item = alternative(arena, 2, form);
     let default = defaultness(arena, &node.modifiers.defaultness);
-    impl_item_form(arena, &node.attrs, visibility(arena, &node.vis), default, item)
+    impl_item_form(
+        arena,
+        &node.attrs,
+        visibility(arena, &node.vis),
+        default,
+        item,
+    )
 }
 
 /// A call of a macro among the items of an impl.
