@@ -1,7 +1,11 @@
 //! Calls, and what else stands behind an operand, as trees.
 
 ghost use Rattle.node_views.specs.Expressions as views;
+ghost use Rattle.node_views.specs.Paths.{index};
+ghost use Rattle.node_words.specs.Words as words;
 ghost use Rattle.std.specs.Prelude.{◌≡◌, IfOk};
+ghost use Rattle.syn_grammar.specs.Name as n;
+ghost use Rattle.syn_grammar.specs.Tree as t;
 
 use node_expressions::call::{ExprAwait, ExprCall, ExprField, ExprIndex, ExprMethodCall, ExprTry};
 use node_to::attributes::attributed;
@@ -15,9 +19,10 @@ use reader_table::word::Sign;
 use reader_tree::arena::Arena;
 use reader_tree::made;
 use reader_tree::tree::Tree;
+use rust_leaf::ident::Ident;
 use std::alloc::AllocError;
 use syn_kinds::token;
-use syn_leaf::member::Member;
+use syn_leaf::member::{Index, Member};
 
 /// A call.
 ///
@@ -67,13 +72,27 @@ pub fn expr_method_call<'a, E: ToTree>(
     attributed(arena, &node.attrs, form)
 }
 
+// A field by its name.
+fn by_name<'a>(arena: &'a Arena, name: &'a Ident) -> Result<Tree<'a>, AllocError>
+    ensures { IfOk result (λ x. x ≡ t.Called n.the_name (words.name name.now)) }
+{
+    called(arena, Part::Name, name.to_tree(arena))
+}
+
+// A field by its number.
+fn by_number<'a>(arena: &'a Arena, number: &'a Index) -> Result<Tree<'a>, AllocError>
+    ensures { IfOk result (λ x. x ≡ t.Called n.the_value (index number.now)) }
+{
+    called(arena, Part::Value, number.to_tree(arena))
+}
+
 // A field, by its name or its number.
 fn field_member<'a>(arena: &'a Arena, member: &'a Member) -> Result<Tree<'a>, AllocError>
     ensures { IfOk result (λ x. x ≡ views.field_member member.now) }
 {
     match member {
-        Member::Named(name) => first(arena, called(arena, Part::Name, name.to_tree(arena))),
-        Member::Unnamed(index) => second(arena, called(arena, Part::Value, index.to_tree(arena))),
+        Member::Named(name) => first(arena, by_name(arena, name)),
+        Member::Unnamed(number) => second(arena, by_number(arena, number)),
     }
 }
 

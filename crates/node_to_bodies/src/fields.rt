@@ -99,13 +99,20 @@ impl<E: ToTree> Way<FieldValue<E>> for AsField {
     }
 }
 
+// What the other fields are taken from.
+fn source<'a, E: ToTree>(arena: &'a Arena, value: &'a Box<E>) -> Result<Tree<'a>, AllocError>
+    ensures { IfOk result (λ x. x ≡ words.expression (E.tree value.now.value)) }
+{
+    expression(arena, value.to_tree(arena))
+}
+
 // What the other fields are taken from, if it is there.
 fn base<'a, E: ToTree>(arena: &'a Arena, rest: &'a Option<Box<E>>) -> Result<Tree<'a>, AllocError>
     ensures { IfOk result (λ x. x ≡ views.base E.tree rest.now) }
 {
     match rest {
         None => made::first(arena, made::nil()),
-        Some(value) => second(arena, expression(arena, value.to_tree(arena))),
+        Some(value) => second(arena, source(arena, value)),
     }
 }
 
