@@ -27,17 +27,21 @@ use reader_tree::tree::Tree;
 use std::alloc::AllocError;
 use syn_kinds::token;
 
-// The `;` behind a statement, if it is there.
+// The `;` behind a statement.
 #[tactic(auto, unfolding(syn_kinds::specs::Table::marks, syn_kinds::specs::Table::sign))]
+fn ended<'a>(arena: &'a Arena, token: &token::Semi) -> Result<Tree<'a>, AllocError>
+    ensures { IfOk result (λ x. x ≡ views.semicolon token.now) }
+{
+    called(arena, Part::Semicolon, sign(Sign::Semi, token))
+}
+
+// The `;` behind a statement, if it is there.
 fn semicolon<'a>(arena: &'a Arena, held: &Option<token::Semi>) -> Result<Tree<'a>, AllocError>
     ensures { IfOk result (λ x. x ≡ words.optional views.semicolon held.now) }
 {
     match held {
         None => absent(arena),
-        Some(token) => first(
-            arena,
-            called(arena, Part::Semicolon, sign(Sign::Semi, token)),
-        ),
+        Some(token) => first(arena, ended(arena, token)),
     }
 }
 
