@@ -4,6 +4,7 @@ ghost use Rattle.node_to_patterns.specs.CaseForms.{case_of, mark_before};
 ghost use Rattle.node_views.specs.Patterns as views;
 ghost use Rattle.std.specs.Prelude.{◌≡◌, IfOk, map};
 ghost use Rattle.syn_grammar.specs.Tree as t;
+ghost use Rattle.syn_lists.specs.Lists.{separators, values};
 
 use crate::attributes::behind_attributes;
 use node_patterns::kinds::PatOr;
@@ -17,6 +18,7 @@ use reader_tree::made;
 use reader_tree::tree::Tree;
 use std::alloc::AllocError;
 use syn_kinds::token;
+use syn_lists::Punctuated;
 
 // A `|`, which is filled in where it is missing.
 #[tactic(auto, unfolding(syn_kinds::specs::Table::marks, syn_kinds::specs::Table::sign))]
@@ -110,6 +112,16 @@ fn all_cases<'a, E: ToTree>(
     }
 }
 
+// The patterns of a list.
+fn cases_of<'a, E: ToTree>(
+    arena: &'a Arena,
+    list: &'a Punctuated<E, token::Or>,
+) -> Result<Tree<'a>, AllocError>
+    ensures { IfOk result (λ x. x ≡ views.cases E.tree (values list.now) (separators list.now)) }
+{
+    all_cases(arena, list.as_slice(), list.separators())
+}
+
 /// Several patterns of which one matches.
 ///
 /// # Errors
@@ -120,7 +132,7 @@ pub fn pat_or<'a, E: ToTree>(arena: &'a Arena, node: &'a PatOr<E>) -> Result<Tre
     ensures { IfOk result (λ x. x ≡ views.pat_or E.tree node.now) }
 {
     let leading = optional_sign(arena, Sign::Or, &node.leading_vert);
-    let cases = all_cases(arena, node.cases.as_slice(), node.cases.separators());
-    let pattern = step::node(arena, Kind::Pattern, pair(arena, leading, cases));
+    let both = pair(arena, leading, cases_of(arena, &node.cases));
+    let pattern = step::node(arena, Kind::Pattern, both);
     behind_attributes(arena, &node.attrs, pattern)
 }

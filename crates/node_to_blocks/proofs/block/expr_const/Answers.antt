@@ -2,4 +2,5 @@ use Rattle.node_to_blocks.proofs.block.expr_const.Goals as goal
 
 pub returns : goal.returns
 returns g c =
-    c.attributed.ensures _ (c.alone.ensures _ (c.pair-own.ensures _ _ c.to_tree.ensures c.body-body.ensures))
+    rw (c.deref.ensures.value, c.deref-2.ensures.value) at (c.attributed.ensures _ (c.alone.ensures _
+    (c.pair-own.ensures _ _ c.to_tree.ensures c.body-body.ensures)))

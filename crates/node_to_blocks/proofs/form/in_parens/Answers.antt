@@ -1,3 +1,4 @@
+use Rattle.std.proofs.Common.{refl}
 use Rattle.node_to_blocks.proofs.form.in_parens.Goals as goal
 
 pub returns : goal.returns

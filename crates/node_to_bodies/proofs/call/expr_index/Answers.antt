@@ -2,5 +2,5 @@ use Rattle.node_to_bodies.proofs.call.expr_index.Goals as goal
 
 pub returns : goal.returns
 returns g c =
-    c.attributed.ensures _ (c.back-form.ensures _ _ c.to_tree-2.ensures (c.enclosed-group.ensures _
-    (c.expression-index.ensures _ c.to_tree.ensures)))
+    rw c.deref.ensures.value at (c.attributed.ensures _ (c.back-form.ensures _ _ c.to_tree-2.ensures
+    (c.enclosed-group.ensures _ (c.expression-index.ensures _ c.to_tree.ensures))))

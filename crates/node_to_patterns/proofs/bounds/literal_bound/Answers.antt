@@ -1,3 +1,4 @@
+use Rattle.std.proofs.Common.{refl}
 use Rattle.node_to_patterns.proofs.bounds.literal_bound.Goals as goal
 
 pub returns : goal.returns

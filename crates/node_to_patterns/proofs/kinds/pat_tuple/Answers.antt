@@ -2,4 +2,5 @@ use Rattle.node_to_patterns.proofs.kinds.pat_tuple.Goals as goal
 
 pub returns : goal.returns
 returns g c =
-    c.behind_attributes.ensures _ (c.in_parentheses.ensures _ (c.enclosed-group.ensures _ c.patterns.ensures))
+    rw c.deref.ensures.value at (c.behind_attributes.ensures _ (c.in_parentheses.ensures _ (c.enclosed-group.ensures
+    _ c.patterns.ensures)))
