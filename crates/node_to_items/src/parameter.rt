@@ -268,7 +268,7 @@ fn ended<'a>(
 }
 
 // The parameters of a function, each with a comma behind it, and `...`.
-#[tactic(auto, using(crate::proofs::Parameters::before_last))]
+#[tactic(auto, using(node_to::proofs::Lists::before_last))]
 fn before_dots<'a, E: ToTree>(
     arena: &'a Arena,
     node: &'a Signature<E>,
