@@ -1,6 +1,5 @@
 -- Constants among arguments.
 use Rattle.std.specs.Prelude.{◌≡◌, ◌≢◌, refl}
-use Rattle.std.proofs.Common.{ap}
 use Rattle.syn_grammar.specs.Kind as k
 use Rattle.syn_grammar.specs.Tree as t
 use Rattle.syn_grammar.specs.Tree.{Tree}

@@ -7,13 +7,16 @@ ghost use Rattle.reader_tree.specs.Forms.{turns as in_turn};
 ghost use Rattle.std.specs.Prelude.{◌≡◌, IfOk, map};
 ghost use Rattle.syn_grammar.specs.Kind as k;
 ghost use Rattle.syn_grammar.specs.Tree as t;
+ghost use Rattle.syn_grammar.specs.Tree.{Tree as GivenTree};
 
 use crate::leaf::sign;
-use crate::row::{self, enclosed, whole};
+use crate::row::enclosed;
+use crate::step::{alternative, called, expression, first, last, node, pair, second, three};
 use crate::to_tree::ToTree;
 use crate::token::raw;
 use node_paths::attribute::{AttrStyle, Attribute, Meta, MetaList, MetaNameValue};
 use node_paths::mac::{Macro, MacroDelimiter};
+use node_paths::path::Path;
 use proc_macro2::tree::TokenStream;
 use reader_table::kind::Kind;
 use reader_table::part::Part;
@@ -68,34 +71,35 @@ impl<E: ToTree> ToTree for Macro<E> {
 
     #[tactic(auto, unfolding(syn_kinds::specs::Table::marks, syn_kinds::specs::Table::sign))]
     fn to_tree<'a>(&'a self, arena: &'a Arena) -> Result<Tree<'a>, AllocError> {
-        made::node(
+        let parts = three(
             arena,
-            Kind::AMacro,
-            row::three(
-                arena,
-                self.path.to_tree(arena)?,
-                sign(Sign::Not, &self.bang_token)?,
-                delimited(arena, &self.delimiter, &self.tokens)?,
-            )?,
-        )
+            self.path.to_tree(arena),
+            sign(Sign::Not, &self.bang_token),
+            delimited(arena, &self.delimiter, &self.tokens),
+        );
+        node(arena, Kind::AMacro, parts)
     }
 }
 
 // What an attribute holds: a path, and what stands behind it.
-fn meta_of<'a>(arena: &'a Arena, path: Tree<'a>, behind: Tree<'a>) -> Result<Tree<'a>, AllocError>
-    ensures { IfOk result (λ x. x ≡ t.Node k.Meta (t.Pair (t.Second path.entry) behind.entry)) }
+fn meta_of<'a>(
+    arena: &'a Arena,
+    path: Result<Tree<'a>, AllocError>,
+    behind: Result<Tree<'a>, AllocError>,
+) -> Result<Tree<'a>, AllocError>
+    ensures { (x y : GivenTree) → IfOk path.entry (λ r. r ≡ x) → IfOk behind.entry (λ r. r ≡ y)
+        → IfOk result (λ r. r ≡ t.Node k.Meta (t.Pair (t.Second x) y)) }
 {
-    let both = made::pair(arena, made::second(arena, path)?, behind)?;
-    made::node(arena, Kind::Meta, both)
+    let both = pair(arena, second(arena, path), behind);
+    node(arena, Kind::Meta, both)
 }
 
 impl<E: ToTree> ToTree for MetaList<E> {
     ghost tree = { views.meta_list E.tree };
 
     fn to_tree<'a>(&'a self, arena: &'a Arena) -> Result<Tree<'a>, AllocError> {
-        let tokens = delimited(arena, &self.delimiter, &self.tokens)?;
-        let behind = made::first(arena, tokens)?;
-        meta_of(arena, self.path.to_tree(arena)?, behind)
+        let tokens = delimited(arena, &self.delimiter, &self.tokens);
+        meta_of(arena, self.path.to_tree(arena), first(arena, tokens))
     }
 }
 
@@ -104,13 +108,21 @@ impl<E: ToTree> ToTree for MetaNameValue<E> {
 
     #[tactic(auto, unfolding(syn_kinds::specs::Table::marks, syn_kinds::specs::Table::sign))]
     fn to_tree<'a>(&'a self, arena: &'a Arena) -> Result<Tree<'a>, AllocError> {
-        let value = whole(arena, self.value.to_tree(arena)?)?;
-        let value = made::called(arena, Part::Value, value)?;
-        let kept = made::second(arena, value)?;
-        let both = made::pair(arena, sign(Sign::Eq, &self.eq_token)?, kept)?;
-        let behind = made::first_behind(arena, 1, both)?;
-        meta_of(arena, self.path.to_tree(arena)?, behind)
+        let value = expression(arena, self.value.to_tree(arena));
+        let value = called(arena, Part::Value, value);
+        let both = pair(arena, sign(Sign::Eq, &self.eq_token), second(arena, value));
+        let behind = alternative(arena, 1, both);
+        meta_of(arena, self.path.to_tree(arena), behind)
     }
+}
+
+// A path alone.
+fn lone_path<'a, E: ToTree>(arena: &'a Arena, path: &'a Path<E>) -> Result<Tree<'a>, AllocError>
+    ensures { IfOk result (λ x. x ≡ t.Node k.Meta (t.Pair (t.Second (views.path E.tree path.now))
+        (words.last 2 t.Nil))) }
+{
+    let behind = last(arena, 2, Ok(made::nil()));
+    meta_of(arena, path.to_tree(arena), behind)
 }
 
 impl<E: ToTree> ToTree for Meta<E> {
@@ -118,10 +130,7 @@ impl<E: ToTree> ToTree for Meta<E> {
 
     fn to_tree<'a>(&'a self, arena: &'a Arena) -> Result<Tree<'a>, AllocError> {
         match self {
-            Meta::Path(path) => {
-                let behind = made::seconds(arena, 2, made::nil())?;
-                meta_of(arena, path.to_tree(arena)?, behind)
-            }
+            Meta::Path(path) => lone_path(arena, path),
             Meta::List(list) => list.to_tree(arena),
             Meta::NameValue(pair) => pair.to_tree(arena),
         }
@@ -278,10 +287,11 @@ fn behind<'a>(
 pub fn attributed<'a, E: ToTree>(
     arena: &'a Arena,
     attributes: &'a [Attribute<E>],
-    form: Tree<'a>,
+    form: Result<Tree<'a>, AllocError>,
 ) -> Result<Tree<'a>, AllocError>
-    ensures { IfOk result (λ x. x ≡ attributed E.tree attributes.now form.entry) }
+    ensures { (x : GivenTree) → IfOk form.entry (λ r. r ≡ x)
+        → IfOk result (λ r. r ≡ attributed E.tree attributes.now x) }
 {
     let each = arena.put_all(outer(arena, attributes)?)?;
-    behind(arena, each, form)
+    behind(arena, each, form?)
 }

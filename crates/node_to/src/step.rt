@@ -72,6 +72,26 @@ pub fn four<'a>(
     made::pair(arena, a?, behind)
 }
 
+/// Five, one behind the other.
+///
+/// # Errors
+///
+/// Where there is no memory for it.
+pub fn five<'a>(
+    arena: &'a Arena,
+    a: Result<Tree<'a>, AllocError>,
+    b: Result<Tree<'a>, AllocError>,
+    c: Result<Tree<'a>, AllocError>,
+    d: Result<Tree<'a>, AllocError>,
+    e: Result<Tree<'a>, AllocError>,
+) -> Result<Tree<'a>, AllocError>
+    ensures { (v w x y z : GivenTree) → IfOk a.entry (λ r. r ≡ v) → IfOk b.entry (λ r. r ≡ w)
+        → IfOk c.entry (λ r. r ≡ x) → IfOk d.entry (λ r. r ≡ y) → IfOk e.entry (λ r. r ≡ z)
+        → IfOk result (λ r. r ≡ t.Pair v (t.Pair w (t.Pair x (t.Pair y z)))) }
+{
+    pair(arena, a, four(arena, b, c, d, e))
+}
+
 /// A node of a kind.
 ///
 /// # Errors

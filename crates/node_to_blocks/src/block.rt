@@ -14,15 +14,13 @@ use node_expressions::block::{
 use node_paths::attribute::Attribute;
 use node_to::attributes::{attributed, inner_attributes};
 use node_to::leaf::{optional, sign};
-use node_to::row::{self, enclosed};
-use node_to::step::absent;
+use node_to::step::{self, absent, alone, called, enclosed, first, four, pair, three};
 use node_to::to_tree::ToTree;
 use node_to_patterns::several::several_of;
 use reader_table::kind::Kind;
 use reader_table::part::Part;
 use reader_table::word::Sign;
 use reader_tree::arena::Arena;
-use reader_tree::made;
 use reader_tree::tree::Tree;
 use std::alloc::AllocError;
 
@@ -34,8 +32,8 @@ use std::alloc::AllocError;
 pub fn block<'a, E: ToTree>(arena: &'a Arena, node: &'a Block<E>) -> Result<Tree<'a>, AllocError>
     ensures { IfOk result (λ x. x ≡ statements.block E.tree node.now) }
 {
-    let group = enclosed(arena, &node.brace_token, statements(arena, node)?)?;
-    made::node(arena, Kind::Block, group)
+    let group = enclosed(arena, &node.brace_token, statements(arena, node));
+    step::node(arena, Kind::Block, group)
 }
 
 /// Statements in braces, behind those of these attributes that stand inside.
@@ -50,28 +48,29 @@ pub fn body<'a, E: ToTree>(
 ) -> Result<Tree<'a>, AllocError>
     ensures { IfOk result (λ x. x ≡ statements.body E.tree attributes.now node.now) }
 {
-    let attributes = inner_attributes(arena, attributes)?;
-    let inside = made::pair(arena, attributes, statements(arena, node)?)?;
-    made::node(
-        arena,
-        Kind::Body,
-        enclosed(arena, &node.brace_token, inside)?,
-    )
+    let attributes = inner_attributes(arena, attributes);
+    let inside = pair(arena, attributes, statements(arena, node));
+    let group = enclosed(arena, &node.brace_token, inside);
+    step::node(arena, Kind::Body, group)
+}
+
+// The label of a block or a loop.
+#[tactic(auto, unfolding(syn_kinds::specs::Table::marks, syn_kinds::specs::Table::sign))]
+fn named<'a>(arena: &'a Arena, label: &'a Label) -> Result<Tree<'a>, AllocError>
+    ensures { IfOk result (λ x. x ≡ views.label label.now) }
+{
+    let mark = sign(Sign::Colon, &label.colon_token);
+    let both = pair(arena, label.name.to_tree(arena), mark);
+    called(arena, Part::Label, step::node(arena, Kind::Label, both))
 }
 
 // The label of a block or a loop, if it is there.
-#[tactic(auto, unfolding(syn_kinds::specs::Table::marks, syn_kinds::specs::Table::sign))]
 fn label<'a>(arena: &'a Arena, held: &'a Option<Label>) -> Result<Tree<'a>, AllocError>
     ensures { IfOk result (λ x. x ≡ words.optional views.label held.now) }
 {
     match held {
         None => absent(arena),
-        Some(label) => {
-            let mark = sign(Sign::Colon, &label.colon_token)?;
-            let both = made::pair(arena, label.name.to_tree(arena)?, mark)?;
-            let node = made::node(arena, Kind::Label, both)?;
-            made::first(arena, made::called(arena, Part::Label, node)?)
-        }
+        Some(label) => first(arena, named(arena, label)),
     }
 }
 
@@ -86,10 +85,9 @@ pub fn expr_block<'a, E: ToTree>(
 ) -> Result<Tree<'a>, AllocError>
     ensures { IfOk result (λ x. x ≡ views.expr_block E.tree node.now) }
 {
-    let body = body(arena, &node.attrs, &node.block)?;
-    let own = made::pair(arena, label(arena, &node.label)?, body)?;
-    let form = made::alone(arena, Kind::ExprBlock, own)?;
-    attributed(arena, &node.attrs, form)
+    let body = body(arena, &node.attrs, &node.block);
+    let own = pair(arena, label(arena, &node.label), body);
+    attributed(arena, &node.attrs, alone(arena, Kind::ExprBlock, own))
 }
 
 /// An unsafe block.
@@ -103,10 +101,9 @@ pub fn expr_unsafe<'a, E: ToTree>(
 ) -> Result<Tree<'a>, AllocError>
     ensures { IfOk result (λ x. x ≡ views.expr_unsafe E.tree node.now) }
 {
-    let body = body(arena, &node.attrs, &node.block)?;
-    let own = made::pair(arena, node.unsafe_token.to_tree(arena)?, body)?;
-    let form = made::alone(arena, Kind::ExprUnsafe, own)?;
-    attributed(arena, &node.attrs, form)
+    let body = body(arena, &node.attrs, &node.block);
+    let own = pair(arena, node.unsafe_token.to_tree(arena), body);
+    attributed(arena, &node.attrs, alone(arena, Kind::ExprUnsafe, own))
 }
 
 /// A block that runs later.
@@ -120,14 +117,13 @@ pub fn expr_async<'a, E: ToTree>(
 ) -> Result<Tree<'a>, AllocError>
     ensures { IfOk result (λ x. x ≡ views.expr_async E.tree node.now) }
 {
-    let own = row::three(
+    let own = three(
         arena,
-        node.async_token.to_tree(arena)?,
-        optional(arena, &node.capture)?,
-        block(arena, &node.block)?,
-    )?;
-    let form = made::alone(arena, Kind::ExprAsync, own)?;
-    attributed(arena, &node.attrs, form)
+        node.async_token.to_tree(arena),
+        optional(arena, &node.capture),
+        block(arena, &node.block),
+    );
+    attributed(arena, &node.attrs, alone(arena, Kind::ExprAsync, own))
 }
 
 /// A block that is a constant.
@@ -141,10 +137,9 @@ pub fn expr_const<'a, E: ToTree>(
 ) -> Result<Tree<'a>, AllocError>
     ensures { IfOk result (λ x. x ≡ views.expr_const E.tree node.now) }
 {
-    let body = body(arena, &node.attrs, &node.block)?;
-    let own = made::pair(arena, node.const_token.to_tree(arena)?, body)?;
-    let form = made::alone(arena, Kind::ExprConst, own)?;
-    attributed(arena, &node.attrs, form)
+    let body = body(arena, &node.attrs, &node.block);
+    let own = pair(arena, node.const_token.to_tree(arena), body);
+    attributed(arena, &node.attrs, alone(arena, Kind::ExprConst, own))
 }
 
 /// A block whose errors are its value.
@@ -158,10 +153,9 @@ pub fn expr_try_block<'a, E: ToTree>(
 ) -> Result<Tree<'a>, AllocError>
     ensures { IfOk result (λ x. x ≡ views.expr_try_block E.tree node.now) }
 {
-    let block = block(arena, &node.block)?;
-    let own = made::pair(arena, node.try_token.to_tree(arena)?, block)?;
-    let form = made::alone(arena, Kind::ExprTryBlock, own)?;
-    attributed(arena, &node.attrs, form)
+    let block = block(arena, &node.block);
+    let own = pair(arena, node.try_token.to_tree(arena), block);
+    attributed(arena, &node.attrs, alone(arena, Kind::ExprTryBlock, own))
 }
 
 /// A loop without an end of its own.
@@ -175,14 +169,13 @@ pub fn expr_loop<'a, E: ToTree>(
 ) -> Result<Tree<'a>, AllocError>
     ensures { IfOk result (λ x. x ≡ views.expr_loop E.tree node.now) }
 {
-    let own = row::three(
+    let own = three(
         arena,
-        label(arena, &node.label)?,
-        node.loop_token.to_tree(arena)?,
-        body(arena, &node.attrs, &node.body)?,
-    )?;
-    let form = made::alone(arena, Kind::ExprLoop, own)?;
-    attributed(arena, &node.attrs, form)
+        label(arena, &node.label),
+        node.loop_token.to_tree(arena),
+        body(arena, &node.attrs, &node.body),
+    );
+    attributed(arena, &node.attrs, alone(arena, Kind::ExprLoop, own))
 }
 
 /// A loop while a condition holds.
@@ -196,15 +189,15 @@ pub fn expr_while<'a, E: ToTree>(
 ) -> Result<Tree<'a>, AllocError>
     ensures { IfOk result (λ x. x ≡ views.expr_while E.tree node.now) }
 {
-    let own = row::four(
+    let condition = condition(arena, node.cond.to_tree(arena));
+    let own = four(
         arena,
-        label(arena, &node.label)?,
-        node.while_token.to_tree(arena)?,
-        condition(arena, node.cond.to_tree(arena)?)?,
-        body(arena, &node.attrs, &node.body)?,
-    )?;
-    let form = made::alone(arena, Kind::ExprWhile, own)?;
-    attributed(arena, &node.attrs, form)
+        label(arena, &node.label),
+        node.while_token.to_tree(arena),
+        condition,
+        body(arena, &node.attrs, &node.body),
+    );
+    attributed(arena, &node.attrs, alone(arena, Kind::ExprWhile, own))
 }
 
 /// A loop over the elements of an iterator.
@@ -218,19 +211,15 @@ pub fn expr_for_loop<'a, E: ToTree>(
 ) -> Result<Tree<'a>, AllocError>
     ensures { IfOk result (λ x. x ≡ views.expr_for_loop E.tree node.now) }
 {
-    let behind = row::three(
+    let condition = condition(arena, node.expr.to_tree(arena));
+    let body = body(arena, &node.attrs, &node.body);
+    let behind = three(arena, node.in_token.to_tree(arena), condition, body);
+    let own = four(
         arena,
-        node.in_token.to_tree(arena)?,
-        condition(arena, node.expr.to_tree(arena)?)?,
-        body(arena, &node.attrs, &node.body)?,
-    )?;
-    let own = row::four(
-        arena,
-        label(arena, &node.label)?,
-        node.for_token.to_tree(arena)?,
-        several_of(arena, &node.pat)?,
+        label(arena, &node.label),
+        node.for_token.to_tree(arena),
+        several_of(arena, &node.pat),
         behind,
-    )?;
-    let form = made::alone(arena, Kind::ExprForLoop, own)?;
-    attributed(arena, &node.attrs, form)
+    );
+    attributed(arena, &node.attrs, alone(arena, Kind::ExprForLoop, own))
 }

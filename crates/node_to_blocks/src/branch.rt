@@ -12,8 +12,9 @@ use node_expressions::branch::{Arm, ExprIf, ExprLet, ExprMatch};
 use node_to::attributes::{attributed, inner_attributes, outer_attributes};
 use node_to::leaf::sign;
 use node_to::list::{Way, turned};
-use node_to::row::{self, enclosed, whole};
-use node_to::step::absent;
+use node_to::step::{
+    self, absent, alone, alternative, called, enclosed, expression, first, four, front, pair, three,
+};
 use node_to::to_tree::ToTree;
 use node_to_patterns::several::several_of;
 use reader_table::kind::Kind;
@@ -25,17 +26,26 @@ use reader_tree::tree::Tree;
 use std::alloc::AllocError;
 use syn_kinds::token;
 
+// `else`, and what stands behind it.
+fn behind_else<'a, E: ToTree>(
+    arena: &'a Arena,
+    token: &'a token::Else,
+    operand: &'a Box<E>,
+) -> Result<Tree<'a>, AllocError>
+    ensures { IfOk result (λ x. x ≡ t.Pair (words.keyword token.now)
+        (views.else_operand (E.tree operand.now.value))) }
+{
+    let operand = else_operand_of(arena, operand);
+    pair(arena, token.to_tree(arena), operand)
+}
+
 // `else`, and what stands behind it, if they are there.
 fn else_branch<'a, E: ToTree>(arena: &'a Arena, node: &'a ExprIf<E>) -> Result<Tree<'a>, AllocError>
     ensures { IfOk result (λ x. x ≡ words.optional (views.else_branch E.tree) node.now.else_branch) }
 {
     match &node.else_branch {
         None => absent(arena),
-        Some((token, operand)) => {
-            let operand = else_operand_of(arena, operand)?;
-            let both = made::pair(arena, token.to_tree(arena)?, operand)?;
-            made::first(arena, both)
-        }
+        Some((token, operand)) => first(arena, behind_else(arena, token, operand)),
     }
 }
 
@@ -47,15 +57,15 @@ fn else_branch<'a, E: ToTree>(arena: &'a Arena, node: &'a ExprIf<E>) -> Result<T
 pub fn expr_if<'a, E: ToTree>(arena: &'a Arena, node: &'a ExprIf<E>) -> Result<Tree<'a>, AllocError>
     ensures { IfOk result (λ x. x ≡ views.expr_if E.tree node.now) }
 {
-    let own = row::four(
+    let condition = condition(arena, node.cond.to_tree(arena));
+    let own = four(
         arena,
-        node.if_token.to_tree(arena)?,
-        condition(arena, node.cond.to_tree(arena)?)?,
-        block(arena, &node.then_branch)?,
-        else_branch(arena, node)?,
-    )?;
-    let form = made::alone(arena, Kind::ExprIf, own)?;
-    attributed(arena, &node.attrs, form)
+        node.if_token.to_tree(arena),
+        condition,
+        block(arena, &node.then_branch),
+        else_branch(arena, node),
+    );
+    attributed(arena, &node.attrs, alone(arena, Kind::ExprIf, own))
 }
 
 /// Whether a pattern matches.
@@ -70,14 +80,27 @@ pub fn expr_let<'a, E: ToTree>(
 ) -> Result<Tree<'a>, AllocError>
     ensures { IfOk result (λ x. x ≡ views.expr_let E.tree node.now) }
 {
-    let own = row::three(
+    let own = three(
         arena,
-        node.let_token.to_tree(arena)?,
-        several_of(arena, &node.pat)?,
-        sign(Sign::Eq, &node.eq_token)?,
-    )?;
-    let form = made::front(arena, Kind::ExprLet, own, node.expr.to_tree(arena)?)?;
+        node.let_token.to_tree(arena),
+        several_of(arena, &node.pat),
+        sign(Sign::Eq, &node.eq_token),
+    );
+    let form = front(arena, Kind::ExprLet, own, node.expr.to_tree(arena));
     attributed(arena, &node.attrs, form)
+}
+
+// `if` and a condition.
+fn behind_if<'a, E: ToTree>(
+    arena: &'a Arena,
+    token: &'a token::If,
+    value: &'a Box<E>,
+) -> Result<Tree<'a>, AllocError>
+    ensures { IfOk result (λ x. x ≡ t.Pair (words.keyword token.now)
+        (words.expression (E.tree value.now.value))) }
+{
+    let value = expression(arena, value.to_tree(arena));
+    pair(arena, token.to_tree(arena), value)
 }
 
 // `if` and a condition, if they are there.
@@ -86,10 +109,7 @@ fn guard<'a, E: ToTree>(arena: &'a Arena, node: &'a Arm<E>) -> Result<Tree<'a>, 
 {
     match &node.guard {
         None => absent(arena),
-        Some((token, value)) => {
-            let value = whole(arena, value.to_tree(arena)?)?;
-            made::first(arena, made::pair(arena, token.to_tree(arena)?, value)?)
-        }
+        Some((token, value)) => first(arena, behind_if(arena, token, value)),
     }
 }
 
@@ -100,7 +120,7 @@ fn arm_comma<'a>(arena: &'a Arena, comma: &Option<token::Comma>) -> Result<Tree<
 {
     match comma {
         None => made::seconds(arena, 2, made::nil()),
-        Some(token) => made::first_behind(arena, 1, sign(Sign::Comma, token)?),
+        Some(token) => alternative(arena, 1, sign(Sign::Comma, token)),
     }
 }
 
@@ -110,12 +130,12 @@ fn behind_arrow<'a, E: ToTree>(arena: &'a Arena, node: &'a Arm<E>) -> Result<Tre
     ensures { IfOk result (λ x. x ≡ t.Pair (words.mark node.now.fat_arrow_token) (t.Pair (t.Called n.the_body
         (words.expression (E.tree node.now.body.value))) (t.Called n.the_comma (views.arm_comma node.now.comma)))) }
 {
-    let value = whole(arena, node.body.to_tree(arena)?)?;
-    row::three(
+    let value = expression(arena, node.body.to_tree(arena));
+    three(
         arena,
-        sign(Sign::FatArrow, &node.fat_arrow_token)?,
-        made::called(arena, Part::Body, value)?,
-        made::called(arena, Part::Comma, arm_comma(arena, &node.comma)?)?,
+        sign(Sign::FatArrow, &node.fat_arrow_token),
+        called(arena, Part::Body, value),
+        called(arena, Part::Comma, arm_comma(arena, &node.comma)),
     )
 }
 
@@ -127,14 +147,14 @@ fn behind_arrow<'a, E: ToTree>(arena: &'a Arena, node: &'a Arm<E>) -> Result<Tre
 pub fn arm<'a, E: ToTree>(arena: &'a Arena, node: &'a Arm<E>) -> Result<Tree<'a>, AllocError>
     ensures { IfOk result (λ x. x ≡ views.arm E.tree node.now) }
 {
-    let parts = row::four(
+    let parts = four(
         arena,
-        outer_attributes(arena, &node.attrs)?,
-        several_of(arena, &node.pat)?,
-        guard(arena, node)?,
-        behind_arrow(arena, node)?,
-    )?;
-    made::node(arena, Kind::Arm, made::first(arena, parts)?)
+        outer_attributes(arena, &node.attrs),
+        several_of(arena, &node.pat),
+        guard(arena, node),
+        behind_arrow(arena, node),
+    );
+    step::node(arena, Kind::Arm, first(arena, parts))
 }
 
 /// As an arm of a `match`.
@@ -160,15 +180,11 @@ pub fn expr_match<'a, E: ToTree>(
 ) -> Result<Tree<'a>, AllocError>
     ensures { IfOk result (λ x. x ≡ views.expr_match E.tree node.now) }
 {
-    let attributes = inner_attributes(arena, &node.attrs)?;
-    let arms = made::node(arena, Kind::Arms, turned(arena, &AsArm, &node.arms)?)?;
-    let inside = made::pair(arena, attributes, arms)?;
-    let own = row::three(
-        arena,
-        node.match_token.to_tree(arena)?,
-        condition(arena, node.expr.to_tree(arena)?)?,
-        enclosed(arena, &node.brace_token, inside)?,
-    )?;
-    let form = made::alone(arena, Kind::ExprMatch, own)?;
-    attributed(arena, &node.attrs, form)
+    let attributes = inner_attributes(arena, &node.attrs);
+    let arms = step::node(arena, Kind::Arms, turned(arena, &AsArm, &node.arms));
+    let inside = pair(arena, attributes, arms);
+    let condition = condition(arena, node.expr.to_tree(arena));
+    let group = enclosed(arena, &node.brace_token, inside);
+    let own = three(arena, node.match_token.to_tree(arena), condition, group);
+    attributed(arena, &node.attrs, alone(arena, Kind::ExprMatch, own))
 }

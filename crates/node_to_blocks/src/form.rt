@@ -5,11 +5,11 @@ ghost use Rattle.node_views.specs.Statements as statements;
 ghost use Rattle.std.specs.Prelude.{◌≡◌, IfOk};
 ghost use Rattle.syn_grammar.specs.Kind as k;
 ghost use Rattle.syn_grammar.specs.Tree as t;
+ghost use Rattle.syn_grammar.specs.Tree.{Tree as GivenTree};
 
 use crate::sight::{PlainBlock, is_block, is_outer_block, plain_block};
-use node_to::row::{self, whole};
 use node_to::sight::alone_inside;
-use node_to::step::{self, absent};
+use node_to::step::{self, absent, alone, called, expression, first, last, lone, second, three};
 use node_to::to_tree::ToTree;
 use proc_macro2::delimiter::Delimiter;
 use reader_table::kind::Kind;
@@ -26,10 +26,13 @@ use std::alloc::AllocError;
 /// # Errors
 ///
 /// Where there is no memory for it.
-pub fn condition<'a>(arena: &'a Arena, form: Tree<'a>) -> Result<Tree<'a>, AllocError>
-    ensures { IfOk result (λ x. x ≡ views.condition form.entry) }
+pub fn condition<'a>(
+    arena: &'a Arena,
+    form: Result<Tree<'a>, AllocError>,
+) -> Result<Tree<'a>, AllocError>
+    ensures { (x : GivenTree) → IfOk form.entry (λ r. r ≡ x) → IfOk result (λ r. r ≡ views.condition x) }
 {
-    made::called(arena, Part::Condition, whole(arena, form)?)
+    called(arena, Part::Condition, expression(arena, form))
 }
 
 // Statements in braces, as they stand where no attributes stand within them.
@@ -37,8 +40,8 @@ fn in_block<'a>(arena: &'a Arena, block: PlainBlock<'_, 'a>) -> Result<Tree<'a>,
     ensures { IfOk result (λ x. x ≡ t.Node k.Block (t.Group block.entry.delimiter block.entry.statements.now)) }
 {
     let inside = block.statements.copy();
-    let group = made::group(arena, block.delimiter, block.group.span, inside)?;
-    made::node(arena, Kind::Block, group)
+    let group = made::group(arena, block.delimiter, block.group.span, inside);
+    step::node(arena, Kind::Block, group)
 }
 
 /// A block where no attributes stand within it, and another expression as it is.
@@ -51,7 +54,7 @@ pub fn as_block<'a>(arena: &'a Arena, form: Tree<'a>) -> Result<Tree<'a>, AllocE
 {
     match plain_block(&form) {
         Some(block) => in_block(arena, block),
-        None => whole(arena, form),
+        None => expression(arena, Ok(form)),
     }
 }
 
@@ -71,8 +74,8 @@ pub fn as_block_of<'a, T: ToTree>(arena: &'a Arena, node: &'a T) -> Result<Tree<
 fn else_if<'a>(arena: &'a Arena, own: &Tree<'a>) -> Result<Tree<'a>, AllocError>
     ensures { IfOk result (λ x. x ≡ t.First (t.Node k.ExprIf own.now)) }
 {
-    let node = made::node(arena, Kind::ExprIf, own.copy())?;
-    made::first(arena, node)
+    let node = step::node(arena, Kind::ExprIf, Ok(own.copy()));
+    first(arena, node)
 }
 
 // What stands behind `else`: another `if`, or a block.
@@ -81,7 +84,7 @@ fn else_operand<'a>(arena: &'a Arena, form: Tree<'a>) -> Result<Tree<'a>, AllocE
 {
     match alone_inside(Kind::ExprIf, &form) {
         Some(own) => else_if(arena, own),
-        None => step::second(arena, as_block(arena, form)),
+        None => second(arena, as_block(arena, form)),
     }
 }
 
@@ -104,37 +107,47 @@ pub fn else_operand_of<'a, T: ToTree>(arena: &'a Arena, node: &'a T) -> Result<T
 /// Where there is no memory for it.
 pub fn expression_statement<'a>(
     arena: &'a Arena,
-    form: Tree<'a>,
-    behind: Tree<'a>,
+    form: Result<Tree<'a>, AllocError>,
+    behind: Result<Tree<'a>, AllocError>,
 ) -> Result<Tree<'a>, AllocError>
-    ensures { IfOk result (λ x. x ≡ statements.expression_statement form.entry behind.entry) }
+    ensures { (x y : GivenTree) → IfOk form.entry (λ r. r ≡ x) → IfOk behind.entry (λ r. r ≡ y)
+        → IfOk result (λ r. r ≡ statements.expression_statement x y) }
 {
-    let none = made::node(arena, Kind::OuterAttributes, made::no_turns())?;
-    let parts = row::three(
+    let none = step::node(arena, Kind::OuterAttributes, Ok(made::no_turns()));
+    let parts = three(
         arena,
-        made::called(arena, Part::Attributes, none)?,
-        made::called(arena, Part::Expression, whole(arena, form)?)?,
+        called(arena, Part::Attributes, none),
+        called(arena, Part::Expression, expression(arena, form)),
         behind,
-    )?;
-    made::node(arena, Kind::AStatement, made::seconds(arena, 4, parts)?)
+    );
+    step::node(arena, Kind::AStatement, last(arena, 4, parts))
+}
+
+// A group that is filled in, at the call site.
+fn filled<'a>(
+    arena: &'a Arena,
+    delimiter: Delimiter,
+    inside: Result<Tree<'a>, AllocError>,
+) -> Result<Tree<'a>, AllocError>
+    ensures { (x : GivenTree) → IfOk inside.entry (λ r. r ≡ x) → IfOk result (λ r. r ≡ t.Group delimiter x) }
+{
+    made::group(arena, delimiter, Span::call_site(), inside?)
 }
 
 // An expression in parentheses.
 fn in_parens<'a>(arena: &'a Arena, form: Tree<'a>) -> Result<Tree<'a>, AllocError>
     ensures { IfOk result (λ x. x ≡ statements.in_parens form.entry) }
 {
-    let inside = row::lone(arena, whole(arena, form)?)?;
-    let span = Span::call_site();
-    let group = made::group(arena, Delimiter::Parenthesis, span, inside)?;
-    made::alone(arena, Kind::ExprParen, group)
+    let inside = lone(arena, expression(arena, Ok(form)));
+    alone(
+        arena,
+        Kind::ExprParen,
+        filled(arena, Delimiter::Parenthesis, inside),
+    )
 }
 
-/// The value of a variable before `else`: one that ends in braces is put in parentheses, at the call site.
-///
-/// # Errors
-///
-/// Where there is no memory for it.
-pub fn closed<'a>(arena: &'a Arena, form: Tree<'a>) -> Result<Tree<'a>, AllocError>
+// The value of a variable before `else`: one that ends in braces is put in parentheses, at the call site.
+fn closed<'a>(arena: &'a Arena, form: Tree<'a>) -> Result<Tree<'a>, AllocError>
     ensures { IfOk result (λ x. x ≡ statements.closed form.entry) }
 {
     if ends_in_braces(&form) {
@@ -144,24 +157,36 @@ pub fn closed<'a>(arena: &'a Arena, form: Tree<'a>) -> Result<Tree<'a>, AllocErr
     }
 }
 
+/// The value of a variable before `else`, of what has such a form: one that ends in braces is put in parentheses, at the
+/// call site.
+///
+/// # Errors
+///
+/// Where there is no memory for it.
+pub fn closed_of<'a, T: ToTree>(arena: &'a Arena, node: &'a T) -> Result<Tree<'a>, AllocError>
+    ensures { IfOk result (λ x. x ≡ statements.closed (T.tree node.now)) }
+{
+    let form = node.to_tree(arena)?;
+    closed(arena, form)
+}
+
 // An expression as the one statement of a block, at the call site.
 fn in_braces<'a>(arena: &'a Arena, form: Tree<'a>) -> Result<Tree<'a>, AllocError>
     ensures { IfOk result (λ x. x ≡ statements.in_braces form.entry) }
 {
-    let statement = expression_statement(arena, form, absent(arena)?)?;
-    let one = in_turn(arena, made::second(arena, statement)?)?;
-    let inside = made::node(arena, Kind::Statements, made::first(arena, one)?)?;
-    let span = Span::call_site();
-    let group = made::group(arena, Delimiter::Brace, span, inside)?;
-    made::node(arena, Kind::Block, group)
+    let statement = expression_statement(arena, Ok(form), absent(arena));
+    let one = in_turn(arena, second(arena, statement));
+    let inside = step::node(arena, Kind::Statements, first(arena, one));
+    let group = filled(arena, Delimiter::Brace, inside);
+    step::node(arena, Kind::Block, group)
 }
 
 // One turn.
-fn in_turn<'a>(arena: &'a Arena, tree: Tree<'a>) -> Result<Tree<'a>, AllocError>
-    ensures { IfOk result (λ x. x ≡ t.Again tree.entry t.End) }
+fn in_turn<'a>(arena: &'a Arena, tree: Result<Tree<'a>, AllocError>) -> Result<Tree<'a>, AllocError>
+    ensures { (x : GivenTree) → IfOk tree.entry (λ r. r ≡ x) → IfOk result (λ r. r ≡ t.Again x t.End) }
 {
     let mut each = Vec::new(arena.alloc());
-    each.push(tree)?;
+    each.push(tree?)?;
     made::turns(arena, each)
 }
 
@@ -172,7 +197,7 @@ fn else_block<'a>(arena: &'a Arena, form: Tree<'a>) -> Result<Tree<'a>, AllocErr
     if is_block(&form) {
         as_block(arena, form)
     } else if is_outer_block(&form) {
-        whole(arena, form)
+        expression(arena, Ok(form))
     } else {
         in_braces(arena, form)
     }

@@ -8,11 +8,11 @@ ghost use Rattle.std.specs.Prelude.{◌≡◌, IfOk};
 ghost use Rattle.syn_grammar.specs.Kind as k;
 ghost use Rattle.syn_grammar.specs.Name as n;
 ghost use Rattle.syn_grammar.specs.Tree as t;
+ghost use Rattle.syn_grammar.specs.Tree.{Tree as GivenTree};
 
 use crate::sight::{TypedPattern, is_no_outer, typed_pattern};
-use node_to::row;
 use node_to::sight::{node_inside, pair_inside};
-use node_to::step::absent;
+use node_to::step::{self, absent, called, first, pair, three};
 use node_to::to_tree::ToTree;
 use reader_table::kind::Kind;
 use reader_table::part::Part;
@@ -41,34 +41,34 @@ fn with_attributes<'a>(
 fn said<'a>(arena: &'a Arena, typed: TypedPattern<'_, 'a>) -> Result<Tree<'a>, AllocError>
     ensures { IfOk result (λ x. x ≡ t.First (t.Pair typed.entry.mark.now (t.Called n.the_type typed.entry.ty.now))) }
 {
-    let ty = made::called(arena, Part::Type, typed.ty.copy())?;
-    made::first(arena, made::pair(arena, typed.mark.copy(), ty)?)
+    let ty = called(arena, Part::Type, Ok(typed.ty.copy()));
+    first(arena, pair(arena, Ok(typed.mark.copy()), ty))
 }
 
 // A pattern that says its type, and what stands behind it.
 fn typed_parts<'a>(
     arena: &'a Arena,
     typed: TypedPattern<'_, 'a>,
-    behind: Tree<'a>,
+    behind: Result<Tree<'a>, AllocError>,
 ) -> Result<Tree<'a>, AllocError>
-    ensures { IfOk result (λ x. x ≡ t.Pair
+    ensures { (x : GivenTree) → IfOk behind.entry (λ r. r ≡ x) → IfOk result (λ r. r ≡ t.Pair
         (statements.with_attributes typed.entry.attributes.now typed.entry.pattern.now)
-        (t.Pair (t.First (t.Pair typed.entry.mark.now (t.Called n.the_type typed.entry.ty.now))) behind.entry)) }
+        (t.Pair (t.First (t.Pair typed.entry.mark.now (t.Called n.the_type typed.entry.ty.now))) x)) }
 {
-    let inner = with_attributes(arena, typed.attributes, typed.pattern)?;
-    let said = said(arena, typed)?;
-    row::three(arena, inner, said, behind)
+    let inner = with_attributes(arena, typed.attributes, typed.pattern);
+    three(arena, inner, said(arena, typed), behind)
 }
 
 // A pattern that doesn't say its type, and what stands behind it.
 fn untyped_parts<'a>(
     arena: &'a Arena,
     pattern: Tree<'a>,
-    behind: Tree<'a>,
+    behind: Result<Tree<'a>, AllocError>,
 ) -> Result<Tree<'a>, AllocError>
-    ensures { IfOk result (λ x. x ≡ t.Pair pattern.entry (t.Pair words.absent behind.entry)) }
+    ensures { (x : GivenTree) → IfOk behind.entry (λ r. r ≡ x)
+        → IfOk result (λ r. r ≡ t.Pair pattern.entry (t.Pair words.absent x)) }
 {
-    row::three(arena, pattern, absent(arena)?, behind)
+    three(arena, Ok(pattern), absent(arena), behind)
 }
 
 /// A pattern in `let`, which may say its type, and what stands behind it.
@@ -79,14 +79,35 @@ fn untyped_parts<'a>(
 pub fn let_pattern<'a>(
     arena: &'a Arena,
     pattern: Tree<'a>,
-    behind: Tree<'a>,
+    behind: Result<Tree<'a>, AllocError>,
 ) -> Result<Tree<'a>, AllocError>
-    ensures { IfOk result (λ x. x ≡ statements.let_pattern pattern.entry behind.entry) }
+    ensures { (x : GivenTree) → IfOk behind.entry (λ r. r ≡ x)
+        → IfOk result (λ r. r ≡ statements.let_pattern pattern.entry x) }
 {
     match typed_pattern(&pattern) {
         Some(typed) => typed_parts(arena, typed, behind),
         None => untyped_parts(arena, pattern, behind),
     }
+}
+
+// The parts of a closure's parameter that doesn't say its type, of its attributes and its pattern.
+fn untyped_of<'a>(
+    arena: &'a Arena,
+    attributes: &Tree<'a>,
+    pattern: &Tree<'a>,
+) -> Result<Tree<'a>, AllocError>
+    ensures { IfOk result (λ x. x ≡ t.Pair attributes.now (t.Pair pattern.now words.absent)) }
+{
+    let attributes = attributes.copy();
+    three(arena, Ok(attributes), Ok(pattern.copy()), absent(arena))
+}
+
+// The same of one without attributes.
+fn untyped_alone<'a>(arena: &'a Arena, pattern: Tree<'a>) -> Result<Tree<'a>, AllocError>
+    ensures { IfOk result (λ x. x ≡ t.Pair statements.no_attributes (t.Pair pattern.entry words.absent)) }
+{
+    let none = step::node(arena, Kind::OuterAttributes, Ok(made::no_turns()));
+    three(arena, none, Ok(pattern), absent(arena))
 }
 
 // The parts of a closure's parameter that doesn't say its type.
@@ -95,13 +116,8 @@ fn parameter<'a>(arena: &'a Arena, pattern: Tree<'a>) -> Result<Tree<'a>, AllocE
     ensures { IfOk result (λ x. x ≡ untyped_parameter pattern.entry) }
 {
     match pair_inside(&pattern) {
-        Some((attributes, inner)) => {
-            row::three(arena, attributes.copy(), inner.copy(), absent(arena)?)
-        }
-        None => {
-            let none = made::node(arena, Kind::OuterAttributes, made::no_turns())?;
-            row::three(arena, none, pattern, absent(arena)?)
-        }
+        Some((attributes, inner)) => untyped_of(arena, attributes, inner),
+        None => untyped_alone(arena, pattern),
     }
 }
 
@@ -109,8 +125,8 @@ fn parameter<'a>(arena: &'a Arena, pattern: Tree<'a>) -> Result<Tree<'a>, AllocE
 fn untyped<'a>(arena: &'a Arena, pattern: Tree<'a>) -> Result<Tree<'a>, AllocError>
     ensures { IfOk result (λ x. x ≡ t.Node k.ClosureParam (untyped_parameter pattern.entry)) }
 {
-    let parts = parameter(arena, pattern)?;
-    made::node(arena, Kind::ClosureParam, parts)
+    let parts = parameter(arena, pattern);
+    step::node(arena, Kind::ClosureParam, parts)
 }
 
 // A parameter of a closure, of its pattern.

@@ -3,9 +3,12 @@
 ghost use Rattle.node_views.specs.Statements as views;
 ghost use Rattle.node_words.specs.Words as words;
 ghost use Rattle.std.specs.Prelude.{◌≡◌, IfOk};
+ghost use Rattle.syn_grammar.specs.Kind as k;
+ghost use Rattle.syn_grammar.specs.Name as n;
 ghost use Rattle.syn_grammar.specs.Tree as t;
+ghost use Rattle.syn_grammar.specs.Tree.{Tree as GivenTree};
 
-use crate::form::{closed, else_block_of, expression_statement};
+use crate::form::{closed_of, else_block_of, expression_statement};
 use crate::pattern::let_pattern;
 use crate::sight::{is_named_macro, is_no_tokens};
 use node_expressions::block::Block;
@@ -13,8 +16,7 @@ use node_expressions::statement::{Local, LocalInit, Stmt, StmtMacro};
 use node_to::attributes::outer_attributes;
 use node_to::leaf::sign;
 use node_to::list::{Way, turned};
-use node_to::row::{self, whole};
-use node_to::step::absent;
+use node_to::step::{self, absent, alternative, called, expression, first, pair, second, three};
 use node_to::to_tree::ToTree;
 use reader_table::kind::Kind;
 use reader_table::part::Part;
@@ -25,17 +27,21 @@ use reader_tree::tree::Tree;
 use std::alloc::AllocError;
 use syn_kinds::token;
 
-// The `;` behind a statement, if it is there.
+// The `;` behind a statement.
 #[tactic(auto, unfolding(syn_kinds::specs::Table::marks, syn_kinds::specs::Table::sign))]
+fn ended<'a>(arena: &'a Arena, token: &token::Semi) -> Result<Tree<'a>, AllocError>
+    ensures { IfOk result (λ x. x ≡ views.semicolon token.now) }
+{
+    called(arena, Part::Semicolon, sign(Sign::Semi, token))
+}
+
+// The `;` behind a statement, if it is there.
 fn semicolon<'a>(arena: &'a Arena, held: &Option<token::Semi>) -> Result<Tree<'a>, AllocError>
     ensures { IfOk result (λ x. x ≡ words.optional views.semicolon held.now) }
 {
     match held {
         None => absent(arena),
-        Some(token) => {
-            let mark = sign(Sign::Semi, token)?;
-            made::first(arena, made::called(arena, Part::Semicolon, mark)?)
-        }
+        Some(token) => first(arena, ended(arena, token)),
     }
 }
 
@@ -46,11 +52,24 @@ fn let_value<'a, E: ToTree>(
 ) -> Result<Tree<'a>, AllocError>
     ensures { IfOk result (λ x. x ≡ views.let_value node.now.diverge (E.tree node.now.expr.value)) }
 {
-    let value = node.expr.to_tree(arena)?;
     match &node.diverge {
-        None => Ok(value),
-        Some(_) => closed(arena, value),
+        None => node.expr.to_tree(arena),
+        Some(_) => closed_of(arena, &node.expr),
     }
+}
+
+// `else` and a block.
+fn behind_else<'a, E: ToTree>(
+    arena: &'a Arena,
+    token: &'a token::Else,
+    form: &'a Box<E>,
+) -> Result<Tree<'a>, AllocError>
+    ensures { IfOk result (λ x. x ≡ t.Called n.the_else (t.Pair (words.keyword token.now)
+        (views.else_block (E.tree form.now.value)))) }
+{
+    let block = else_block_of(arena, form);
+    let both = pair(arena, token.to_tree(arena), block);
+    called(arena, Part::Else, both)
 }
 
 // `else` and a block, if they are there.
@@ -59,11 +78,7 @@ fn diverge<'a, E: ToTree>(arena: &'a Arena, node: &'a LocalInit<E>) -> Result<Tr
 {
     match &node.diverge {
         None => absent(arena),
-        Some((token, form)) => {
-            let block = else_block_of(arena, form)?;
-            let both = made::pair(arena, token.to_tree(arena)?, block)?;
-            made::first(arena, made::called(arena, Part::Else, both)?)
-        }
+        Some((token, form)) => first(arena, behind_else(arena, token, form)),
     }
 }
 
@@ -79,12 +94,12 @@ pub fn local_init<'a, E: ToTree>(
 ) -> Result<Tree<'a>, AllocError>
     ensures { IfOk result (λ x. x ≡ views.local_init E.tree node.now) }
 {
-    let value = whole(arena, let_value(arena, node)?)?;
-    row::three(
+    let value = expression(arena, let_value(arena, node));
+    three(
         arena,
-        sign(Sign::Eq, &node.eq_token)?,
-        made::called(arena, Part::Value, value)?,
-        diverge(arena, node)?,
+        sign(Sign::Eq, &node.eq_token),
+        called(arena, Part::Value, value),
+        diverge(arena, node),
     )
 }
 
@@ -94,7 +109,7 @@ fn init<'a, E: ToTree>(arena: &'a Arena, node: &'a Local<E>) -> Result<Tree<'a>,
 {
     match &node.init {
         None => absent(arena),
-        Some(init) => made::first(arena, local_init(arena, init)?),
+        Some(init) => first(arena, local_init(arena, init)),
     }
 }
 
@@ -107,8 +122,8 @@ fn behind_pattern<'a, E: ToTree>(
     ensures { IfOk result (λ x. x ≡ t.Pair (words.optional (views.local_init E.tree) node.now.init)
         (words.mark node.now.semi_token)) }
 {
-    let mark = sign(Sign::Semi, &node.semi_token)?;
-    made::pair(arena, init(arena, node)?, mark)
+    let mark = sign(Sign::Semi, &node.semi_token);
+    pair(arena, init(arena, node), mark)
 }
 
 // The pattern of a variable, and what stands behind it.
@@ -116,8 +131,8 @@ fn declared<'a, E: ToTree>(arena: &'a Arena, node: &'a Local<E>) -> Result<Tree<
     ensures { IfOk result (λ x. x ≡ views.let_pattern (E.tree node.now.pat)
         (t.Pair (words.optional (views.local_init E.tree) node.now.init) (words.mark node.now.semi_token))) }
 {
+    let behind = behind_pattern(arena, node);
     let pattern = node.pat.to_tree(arena)?;
-    let behind = behind_pattern(arena, node)?;
     let_pattern(arena, pattern, behind)
 }
 
@@ -129,10 +144,10 @@ fn declared<'a, E: ToTree>(arena: &'a Arena, node: &'a Local<E>) -> Result<Tree<
 pub fn local<'a, E: ToTree>(arena: &'a Arena, node: &'a Local<E>) -> Result<Tree<'a>, AllocError>
     ensures { IfOk result (λ x. x ≡ views.local E.tree node.now) }
 {
-    let declared = declared(arena, node)?;
-    let parts = made::pair(arena, node.let_token.to_tree(arena)?, declared)?;
-    let statement = made::node(arena, Kind::ALet, made::first(arena, parts)?)?;
-    made::pair(arena, outer_attributes(arena, &node.attrs)?, statement)
+    let declared = declared(arena, node);
+    let parts = pair(arena, node.let_token.to_tree(arena), declared);
+    let statement = step::node(arena, Kind::ALet, first(arena, parts));
+    pair(arena, outer_attributes(arena, &node.attrs), statement)
 }
 
 // An item among statements: a macro with a name of its own stands elsewhere.
@@ -166,7 +181,7 @@ pub fn item_statement_of<'a, T: ToTree>(
 fn lone<'a>(arena: &'a Arena, token: &token::Semi) -> Result<Tree<'a>, AllocError>
     ensures { IfOk result (λ x. x ≡ t.First (words.mark token.now)) }
 {
-    made::first(arena, sign(Sign::Semi, token)?)
+    first(arena, sign(Sign::Semi, token))
 }
 
 // An expression among statements that is no lone `;`.
@@ -178,8 +193,8 @@ fn among<'a>(
     ensures { IfOk result (λ x. x ≡ t.Second
         (views.expression_statement form.entry (words.optional views.semicolon token.now))) }
 {
-    let behind = semicolon(arena, token)?;
-    made::second(arena, expression_statement(arena, form, behind)?)
+    let behind = semicolon(arena, token);
+    second(arena, expression_statement(arena, Ok(form), behind))
 }
 
 // An expression among statements: one of no tokens before a `;` is a lone `;`.
@@ -230,12 +245,38 @@ pub fn stmt_macro<'a, E: ToTree>(
 ) -> Result<Tree<'a>, AllocError>
     ensures { IfOk result (λ x. x ≡ views.stmt_macro E.tree node.now) }
 {
-    row::three(
+    three(
         arena,
-        outer_attributes(arena, &node.attrs)?,
-        node.mac.to_tree(arena)?,
-        semicolon(arena, &node.semi_token)?,
+        outer_attributes(arena, &node.attrs),
+        node.mac.to_tree(arena),
+        semicolon(arena, &node.semi_token),
     )
+}
+
+// What a statement is, of an expression and what stands behind it.
+fn of_expression<'a, E: ToTree>(
+    arena: &'a Arena,
+    form: &'a E,
+    token: &Option<token::Semi>,
+) -> Result<Tree<'a>, AllocError>
+    ensures { IfOk result (λ x. x ≡ views.expression_statement (E.tree form.now)
+        (words.optional views.semicolon token.now)) }
+{
+    let behind = semicolon(arena, token);
+    expression_statement(arena, form.to_tree(arena), behind)
+}
+
+// A statement of that alternative.
+fn statement<'a>(
+    arena: &'a Arena,
+    number: usize,
+    inner: Result<Tree<'a>, AllocError>,
+) -> Result<Tree<'a>, AllocError>
+    ensures { (x : GivenTree) → IfOk inner.entry (λ r. r ≡ x)
+        → IfOk result (λ r. r ≡ t.Node k.AStatement (words.alternative number x)) }
+{
+    let chosen = alternative(arena, number, inner);
+    step::node(arena, Kind::AStatement, chosen)
 }
 
 /// A statement.
@@ -247,22 +288,10 @@ pub fn stmt<'a, E: ToTree>(arena: &'a Arena, node: &'a Stmt<E>) -> Result<Tree<'
     ensures { IfOk result (λ x. x ≡ views.stmt E.tree node.now) }
 {
     match node {
-        Stmt::Item(item) => {
-            let inner = item_statement_of(arena, item)?;
-            made::node(arena, Kind::AStatement, inner)
-        }
-        Stmt::Macro(node) => {
-            let inner = made::first_behind(arena, 1, stmt_macro(arena, node)?)?;
-            made::node(arena, Kind::AStatement, inner)
-        }
-        Stmt::Local(node) => {
-            let inner = made::first_behind(arena, 2, local(arena, node)?)?;
-            made::node(arena, Kind::AStatement, inner)
-        }
-        Stmt::Expr(form, token) => {
-            let behind = semicolon(arena, token)?;
-            expression_statement(arena, form.to_tree(arena)?, behind)
-        }
+        Stmt::Item(item) => { step::node(arena, Kind::AStatement, item_statement_of(arena, item)) }
+        Stmt::Macro(node) => statement(arena, 1, stmt_macro(arena, node)),
+        Stmt::Local(node) => statement(arena, 2, local(arena, node)),
+        Stmt::Expr(form, token) => of_expression(arena, form, token),
     }
 }
 
@@ -272,9 +301,9 @@ fn block_stmt<'a, E: ToTree>(arena: &'a Arena, node: &'a Stmt<E>) -> Result<Tree
 {
     match node {
         Stmt::Expr(form, token) => lone_or_of(arena, form, token),
-        Stmt::Item(_) => made::second(arena, stmt(arena, node)?),
-        Stmt::Macro(_) => made::second(arena, stmt(arena, node)?),
-        Stmt::Local(_) => made::second(arena, stmt(arena, node)?),
+        Stmt::Item(_) => second(arena, stmt(arena, node)),
+        Stmt::Macro(_) => second(arena, stmt(arena, node)),
+        Stmt::Local(_) => second(arena, stmt(arena, node)),
     }
 }
 
@@ -289,8 +318,8 @@ pub fn statements<'a, E: ToTree>(
 ) -> Result<Tree<'a>, AllocError>
     ensures { IfOk result (λ x. x ≡ views.statements E.tree node.now) }
 {
-    let each = turned(arena, &AsStatement, &node.stmts)?;
-    made::node(arena, Kind::Statements, made::first(arena, each)?)
+    let each = turned(arena, &AsStatement, &node.stmts);
+    step::node(arena, Kind::Statements, first(arena, each))
 }
 
 /// As a statement among others.

@@ -1,7 +1,10 @@
 //! Expressions that are whole by themselves, as trees.
 
 ghost use Rattle.node_views.specs.Expressions as views;
+ghost use Rattle.proc_macro2.specs.declared.delimiter.Delimiter.TheVariants as delimiters;
 ghost use Rattle.std.specs.Prelude.{◌≡◌, IfOk};
+ghost use Rattle.syn_grammar.specs.Tree as t;
+ghost use Rattle.syn_grammar.specs.Tree.{Tree as GivenTree};
 
 use node_expressions::atom::{
     ExprArray, ExprGroup, ExprInfer, ExprLit, ExprMacro, ExprParen, ExprPath, ExprRepeat, ExprTuple,
@@ -9,7 +12,7 @@ use node_expressions::atom::{
 use node_to::attributes::attributed;
 use node_to::leaf::sign;
 use node_to::list::expressions;
-use node_to::row::{self, enclosed, whole};
+use node_to::step::{alone, enclosed, expression, lone, three};
 use node_to::to_tree::ToTree;
 use node_to_types::qualified::any_path;
 use proc_macro2::delimiter::Delimiter;
@@ -18,6 +21,7 @@ use reader_table::word::Sign;
 use reader_tree::arena::Arena;
 use reader_tree::made;
 use reader_tree::tree::Tree;
+use rust_map::span::Span;
 use std::alloc::AllocError;
 
 /// A literal.
@@ -31,7 +35,7 @@ pub fn expr_lit<'a, E: ToTree>(
 ) -> Result<Tree<'a>, AllocError>
     ensures { IfOk result (λ x. x ≡ views.expr_lit E.tree node.now) }
 {
-    let form = made::alone(arena, Kind::ExprLit, node.lit.to_tree(arena)?)?;
+    let form = alone(arena, Kind::ExprLit, node.lit.to_tree(arena));
     attributed(arena, &node.attrs, form)
 }
 
@@ -46,9 +50,8 @@ pub fn expr_path<'a, E: ToTree>(
 ) -> Result<Tree<'a>, AllocError>
     ensures { IfOk result (λ x. x ≡ views.expr_path E.tree node.now) }
 {
-    let path = any_path(arena, &node.qself, &node.path)?;
-    let form = made::alone(arena, Kind::ExprPath, path)?;
-    attributed(arena, &node.attrs, form)
+    let path = any_path(arena, &node.qself, &node.path);
+    attributed(arena, &node.attrs, alone(arena, Kind::ExprPath, path))
 }
 
 /// A call of a macro.
@@ -62,7 +65,7 @@ pub fn expr_macro<'a, E: ToTree>(
 ) -> Result<Tree<'a>, AllocError>
     ensures { IfOk result (λ x. x ≡ views.expr_macro E.tree node.now) }
 {
-    let form = made::alone(arena, Kind::ExprMacro, node.mac.to_tree(arena)?)?;
+    let form = alone(arena, Kind::ExprMacro, node.mac.to_tree(arena));
     attributed(arena, &node.attrs, form)
 }
 
@@ -77,9 +80,8 @@ pub fn expr_infer<'a, E: ToTree>(
 ) -> Result<Tree<'a>, AllocError>
     ensures { IfOk result (λ x. x ≡ views.expr_infer E.tree node.now) }
 {
-    let word = node.underscore_token.to_tree(arena)?;
-    let form = made::alone(arena, Kind::ExprInfer, word)?;
-    attributed(arena, &node.attrs, form)
+    let word = node.underscore_token.to_tree(arena);
+    attributed(arena, &node.attrs, alone(arena, Kind::ExprInfer, word))
 }
 
 /// An expression in parentheses.
@@ -93,10 +95,9 @@ pub fn expr_paren<'a, E: ToTree>(
 ) -> Result<Tree<'a>, AllocError>
     ensures { IfOk result (λ x. x ≡ views.expr_paren E.tree node.now) }
 {
-    let inside = row::lone(arena, whole(arena, node.expr.to_tree(arena)?)?)?;
-    let group = enclosed(arena, &node.paren_token, inside)?;
-    let form = made::alone(arena, Kind::ExprParen, group)?;
-    attributed(arena, &node.attrs, form)
+    let inside = lone(arena, expression(arena, node.expr.to_tree(arena)));
+    let group = enclosed(arena, &node.paren_token, inside);
+    attributed(arena, &node.attrs, alone(arena, Kind::ExprParen, group))
 }
 
 /// A tuple.
@@ -110,9 +111,8 @@ pub fn expr_tuple<'a, E: ToTree>(
 ) -> Result<Tree<'a>, AllocError>
     ensures { IfOk result (λ x. x ≡ views.expr_tuple E.tree node.now) }
 {
-    let group = enclosed(arena, &node.paren_token, expressions(arena, &node.elems)?)?;
-    let form = made::alone(arena, Kind::ExprParen, group)?;
-    attributed(arena, &node.attrs, form)
+    let group = enclosed(arena, &node.paren_token, expressions(arena, &node.elems));
+    attributed(arena, &node.attrs, alone(arena, Kind::ExprParen, group))
 }
 
 /// An array.
@@ -126,9 +126,8 @@ pub fn expr_array<'a, E: ToTree>(
 ) -> Result<Tree<'a>, AllocError>
     ensures { IfOk result (λ x. x ≡ views.expr_array E.tree node.now) }
 {
-    let group = enclosed(arena, &node.bracket_token, expressions(arena, &node.elems)?)?;
-    let form = made::alone(arena, Kind::ExprArray, group)?;
-    attributed(arena, &node.attrs, form)
+    let group = enclosed(arena, &node.bracket_token, expressions(arena, &node.elems));
+    attributed(arena, &node.attrs, alone(arena, Kind::ExprArray, group))
 }
 
 /// An array of equal elements.
@@ -143,15 +142,26 @@ pub fn expr_repeat<'a, E: ToTree>(
 ) -> Result<Tree<'a>, AllocError>
     ensures { IfOk result (λ x. x ≡ views.expr_repeat E.tree node.now) }
 {
-    let inside = row::three(
+    let inside = three(
         arena,
-        whole(arena, node.expr.to_tree(arena)?)?,
-        sign(Sign::Semi, &node.semi_token)?,
-        whole(arena, node.len.to_tree(arena)?)?,
-    )?;
-    let group = enclosed(arena, &node.bracket_token, inside)?;
-    let form = made::alone(arena, Kind::ExprRepeat, group)?;
-    attributed(arena, &node.attrs, form)
+        expression(arena, node.expr.to_tree(arena)),
+        sign(Sign::Semi, &node.semi_token),
+        expression(arena, node.len.to_tree(arena)),
+    );
+    let group = enclosed(arena, &node.bracket_token, inside);
+    attributed(arena, &node.attrs, alone(arena, Kind::ExprRepeat, group))
+}
+
+// A group without delimiters, which stands there.
+fn unenclosed<'a>(
+    arena: &'a Arena,
+    span: Span,
+    inside: Result<Tree<'a>, AllocError>,
+) -> Result<Tree<'a>, AllocError>
+    ensures { (x : GivenTree) → IfOk inside.entry (λ r. r ≡ x)
+        → IfOk result (λ r. r ≡ t.Group delimiters.None x) }
+{
+    made::group(arena, Delimiter::None, span, inside?)
 }
 
 /// An expression in a group without delimiters, which stands where that does.
@@ -165,9 +175,7 @@ pub fn expr_group<'a, E: ToTree>(
 ) -> Result<Tree<'a>, AllocError>
     ensures { IfOk result (λ x. x ≡ views.expr_group E.tree node.now) }
 {
-    let inside = whole(arena, node.expr.to_tree(arena)?)?;
-    let span = node.group_token.span;
-    let group = made::group(arena, Delimiter::None, span, inside)?;
-    let form = made::alone(arena, Kind::ExprGroup, group)?;
-    attributed(arena, &node.attrs, form)
+    let inside = expression(arena, node.expr.to_tree(arena));
+    let group = unenclosed(arena, node.group_token.span, inside);
+    attributed(arena, &node.attrs, alone(arena, Kind::ExprGroup, group))
 }

@@ -4,6 +4,7 @@ ghost use Rattle.node_views.specs.Expressions as views;
 ghost use Rattle.node_views.specs.Patterns.{held};
 ghost use Rattle.reader_table.specs.Kinds.{kind_of};
 ghost use Rattle.std.specs.Prelude.{◌≡◌, IfOk};
+ghost use Rattle.syn_grammar.specs.Tree.{Tree as GivenTree};
 
 use node_expressions::operator::{
     ExprAssign, ExprBinary, ExprCast, ExprRange, ExprRawAddr, ExprReference, ExprUnary,
@@ -11,15 +12,13 @@ use node_expressions::operator::{
 use node_to::attributes::attributed;
 use node_to::leaf::{optional, sign};
 use node_to::operators::kind_of;
-use node_to::row;
-use node_to::step::absent;
+use node_to::step::{absent, alone, alternative, back, called, front, infix, pair, three};
 use node_to::to_tree::ToTree;
 use node_types::kinds::PointerMutability;
 use reader_table::kind::Kind;
 use reader_table::part::Part;
 use reader_table::word::Sign;
 use reader_tree::arena::Arena;
-use reader_tree::made;
 use reader_tree::tree::Tree;
 use std::alloc::AllocError;
 use syn_leaf::operators::RangeLimits;
@@ -35,14 +34,18 @@ pub fn expr_cast<'a, E: ToTree>(
 ) -> Result<Tree<'a>, AllocError>
     ensures { IfOk result (λ x. x ≡ views.expr_cast E.tree node.now) }
 {
-    let own = row::three(
+    let own = three(
         arena,
-        node.as_token.to_tree(arena)?,
-        made::called(arena, Part::Type, node.ty.to_tree(arena)?)?,
-        absent(arena)?,
-    )?;
-    let form = made::back(arena, node.expr.to_tree(arena)?, Kind::ExprCast, own)?;
-    attributed(arena, &node.attrs, form)
+        node.as_token.to_tree(arena),
+        called(arena, Part::Type, node.ty.to_tree(arena)),
+        absent(arena),
+    );
+    let operand = node.expr.to_tree(arena);
+    attributed(
+        arena,
+        &node.attrs,
+        back(arena, operand, Kind::ExprCast, own),
+    )
 }
 
 /// An operator in front of an operand.
@@ -56,8 +59,9 @@ pub fn expr_unary<'a, E: ToTree>(
 ) -> Result<Tree<'a>, AllocError>
     ensures { IfOk result (λ x. x ≡ views.expr_unary E.tree node.now) }
 {
-    let operand = node.expr.to_tree(arena)?;
-    let form = made::front(arena, Kind::ExprUnary, node.op.to_tree(arena)?, operand)?;
+    let own = node.op.to_tree(arena);
+    let operand = node.expr.to_tree(arena);
+    let form = front(arena, Kind::ExprUnary, own, operand);
     attributed(arena, &node.attrs, form)
 }
 
@@ -73,9 +77,10 @@ pub fn expr_reference<'a, E: ToTree>(
 ) -> Result<Tree<'a>, AllocError>
     ensures { IfOk result (λ x. x ≡ views.expr_reference E.tree node.now) }
 {
-    let mark = sign(Sign::And, &node.and_token)?;
-    let own = made::pair(arena, mark, optional(arena, &node.mutability)?)?;
-    let form = made::front(arena, Kind::ExprReference, own, node.expr.to_tree(arena)?)?;
+    let mark = sign(Sign::And, &node.and_token);
+    let own = pair(arena, mark, optional(arena, &node.mutability));
+    let operand = node.expr.to_tree(arena);
+    let form = front(arena, Kind::ExprReference, own, operand);
     attributed(arena, &node.attrs, form)
 }
 
@@ -104,14 +109,18 @@ pub fn expr_raw_addr<'a, E: ToTree>(
 ) -> Result<Tree<'a>, AllocError>
     ensures { IfOk result (λ x. x ≡ views.expr_raw_addr E.tree node.now) }
 {
-    let own = row::three(
+    let own = three(
         arena,
-        sign(Sign::And, &node.and_token)?,
-        node.raw.to_tree(arena)?,
-        raw_mutability(arena, &node.mutability)?,
-    )?;
-    let form = made::front(arena, Kind::ExprRawAddr, own, node.expr.to_tree(arena)?)?;
-    attributed(arena, &node.attrs, form)
+        sign(Sign::And, &node.and_token),
+        node.raw.to_tree(arena),
+        raw_mutability(arena, &node.mutability),
+    );
+    let operand = node.expr.to_tree(arena);
+    attributed(
+        arena,
+        &node.attrs,
+        front(arena, Kind::ExprRawAddr, own, operand),
+    )
 }
 
 // The kind of a range.
@@ -139,19 +148,19 @@ fn limits_mark<'a>(limits: &RangeLimits) -> Result<Tree<'a>, AllocError>
 fn operands<'a, E: ToTree>(
     arena: &'a Arena,
     kind: Kind,
-    own: Tree<'a>,
+    own: Result<Tree<'a>, AllocError>,
     node: &'a ExprRange<E>,
 ) -> Result<Tree<'a>, AllocError>
-    ensures { IfOk result (λ x. x ≡ views.operands (held E.tree node.now.start) (kind_of kind) own.entry
+    ensures { (x : GivenTree) → IfOk own.entry (λ r. r ≡ x)
+        → IfOk result (λ r. r ≡ views.operands (held E.tree node.now.start) (kind_of kind) x
         (held E.tree node.now.end)) }
 {
     match (&node.start, &node.end) {
-        (None, None) => made::alone(arena, kind, own),
-        (None, Some(end)) => made::front(arena, kind, own, end.to_tree(arena)?),
-        (Some(start), None) => made::back(arena, start.to_tree(arena)?, kind, own),
+        (None, None) => alone(arena, kind, own),
+        (None, Some(end)) => front(arena, kind, own, end.to_tree(arena)),
+        (Some(start), None) => back(arena, start.to_tree(arena), kind, own),
         (Some(start), Some(end)) => {
-            let end = end.to_tree(arena)?;
-            made::infix(arena, start.to_tree(arena)?, kind, own, end)
+            infix(arena, start.to_tree(arena), kind, own, end.to_tree(arena))
         }
     }
 }
@@ -167,9 +176,9 @@ pub fn expr_range<'a, E: ToTree>(
 ) -> Result<Tree<'a>, AllocError>
     ensures { IfOk result (λ x. x ≡ views.expr_range E.tree node.now) }
 {
-    let mark = limits_mark(&node.limits)?;
-    let form = operands(arena, limits_kind(&node.limits), mark, node)?;
-    attributed(arena, &node.attrs, form)
+    let kind = limits_kind(&node.limits);
+    let mark = limits_mark(&node.limits);
+    attributed(arena, &node.attrs, operands(arena, kind, mark, node))
 }
 
 /// An assignment.
@@ -184,15 +193,10 @@ pub fn expr_assign<'a, E: ToTree>(
 ) -> Result<Tree<'a>, AllocError>
     ensures { IfOk result (λ x. x ≡ views.expr_assign E.tree node.now) }
 {
-    let own = made::first_behind(arena, 0, sign(Sign::Eq, &node.eq_token)?)?;
-    let right = node.right.to_tree(arena)?;
-    let form = made::infix(
-        arena,
-        node.left.to_tree(arena)?,
-        Kind::ExprAssign,
-        own,
-        right,
-    )?;
+    let own = alternative(arena, 0, sign(Sign::Eq, &node.eq_token));
+    let left = node.left.to_tree(arena);
+    let right = node.right.to_tree(arena);
+    let form = infix(arena, left, Kind::ExprAssign, own, right);
     attributed(arena, &node.attrs, form)
 }
 
@@ -207,14 +211,9 @@ pub fn expr_binary<'a, E: ToTree>(
 ) -> Result<Tree<'a>, AllocError>
     ensures { IfOk result (λ x. x ≡ views.expr_binary E.tree node.now) }
 {
-    let own = node.op.to_tree(arena)?;
-    let right = node.right.to_tree(arena)?;
-    let form = made::infix(
-        arena,
-        node.left.to_tree(arena)?,
-        kind_of(&node.op),
-        own,
-        right,
-    )?;
+    let own = node.op.to_tree(arena);
+    let left = node.left.to_tree(arena);
+    let right = node.right.to_tree(arena);
+    let form = infix(arena, left, kind_of(&node.op), own, right);
     attributed(arena, &node.attrs, form)
 }

@@ -37,8 +37,12 @@ path_before x y = use_name (out-UsePath x).ident ▸ t.First (mark (out-UsePath 
 abbrev pub name_alone : UseName → Tree
 name_alone x = use_name x.ident ▸ t.Second absent
 
+-- as, and what it becomes
+abbrev pub other_name : UseRename → Tree
+other_name x = keyword x.as_token ▸ name_or "_" x.rename
+
 abbrev pub name_renamed : UseRename → Tree
-name_renamed x = use_name x.ident ▸ t.Second (t.First (keyword x.as_token ▸ name_or "_" x.rename))
+name_renamed x = use_name x.ident ▸ t.Second (t.First (other_name x))
 
 -- a tree that is no group of trees: `*`, or what begins with a name
 abbrev pub import_branch : Bool → Tree → Tree

@@ -4,14 +4,15 @@ ghost use Rattle.node_views.specs.Items as views;
 ghost use Rattle.node_words.specs.Words as words;
 ghost use Rattle.reader_table.specs.Kinds.{place_of};
 ghost use Rattle.std.specs.Prelude.{◌≡◌, IfOk};
+ghost use Rattle.syn_grammar.specs.Tree as t;
+ghost use Rattle.syn_grammar.specs.Tree.{Tree as GivenTree};
 
 use crate::data::{generics_of, named};
 use crate::item::item_of;
 use node_generics::Generics;
 use node_items::alias::{ItemType, WhereClausePlacement};
 use node_to::leaf::sign;
-use node_to::row;
-use node_to::step::absent;
+use node_to::step::{self, absent, alternative, called, first, four, pair, second, three};
 use node_to::to_tree::ToTree;
 use node_to_types::conditions::where_of;
 use node_to_types::visibility::visibility;
@@ -20,7 +21,6 @@ use reader_table::kind::{Kind, Place};
 use reader_table::part::Part;
 use reader_table::word::Sign;
 use reader_tree::arena::Arena;
-use reader_tree::made;
 use reader_tree::tree::Tree;
 use rust_leaf::ident::Ident;
 use std::alloc::AllocError;
@@ -35,12 +35,37 @@ use syn_kinds::token;
 pub fn definition<'a>(
     arena: &'a Arena,
     eq_token: &token::Eq,
-    ty: Tree<'a>,
+    ty: Result<Tree<'a>, AllocError>,
 ) -> Result<Tree<'a>, AllocError>
-    ensures { IfOk result (λ x. x ≡ views.definition eq_token.now ty.entry) }
+    ensures { (x : GivenTree) → IfOk ty.entry (λ r. r ≡ x)
+        → IfOk result (λ r. r ≡ views.definition eq_token.now x) }
 {
-    let named = made::called(arena, Part::Type, ty)?;
-    made::first(arena, made::pair(arena, sign(Sign::Eq, eq_token)?, named)?)
+    let named = called(arena, Part::Type, ty);
+    first(arena, pair(arena, sign(Sign::Eq, eq_token), named))
+}
+
+// The conditions before the definition.
+fn early<'a>(
+    arena: &'a Arena,
+    conditions: Result<Tree<'a>, AllocError>,
+    definition: Result<Tree<'a>, AllocError>,
+) -> Result<Tree<'a>, AllocError>
+    ensures { (x y : GivenTree) → IfOk conditions.entry (λ r. r ≡ x) → IfOk definition.entry (λ r. r ≡ y)
+        → IfOk result (λ r. r ≡ t.First (t.Pair x y)) }
+{
+    first(arena, pair(arena, conditions, definition))
+}
+
+// The conditions behind the definition.
+fn late<'a>(
+    arena: &'a Arena,
+    conditions: Result<Tree<'a>, AllocError>,
+    definition: Result<Tree<'a>, AllocError>,
+) -> Result<Tree<'a>, AllocError>
+    ensures { (x y : GivenTree) → IfOk conditions.entry (λ r. r ≡ x) → IfOk definition.entry (λ r. r ≡ y)
+        → IfOk result (λ r. r ≡ t.Second (t.Pair y x)) }
+{
+    second(arena, pair(arena, definition, conditions))
 }
 
 /// The conditions before the definition, or behind it, where there are none too.
@@ -48,31 +73,30 @@ pub fn definition<'a>(
 /// # Errors
 ///
 /// Where there is no memory for them.
-pub fn type_end<'a>(
+pub fn type_end<'a, E>(
     arena: &'a Arena,
     placement: WhereClausePlacement,
-    has_where: bool,
-    conditions: Tree<'a>,
-    definition: Tree<'a>,
+    generics: &Generics<E>,
+    conditions: Result<Tree<'a>, AllocError>,
+    definition: Result<Tree<'a>, AllocError>,
 ) -> Result<Tree<'a>, AllocError>
-    ensures { IfOk result (λ x. x ≡ views.type_end placement has_where conditions.entry definition.entry) }
+    ensures { (x y : GivenTree) → IfOk conditions.entry (λ r. r ≡ x) → IfOk definition.entry (λ r. r ≡ y)
+        → IfOk result (λ r. r ≡ views.type_end placement (views.has_where generics.now) x y) }
 {
     match placement {
         WhereClausePlacement::Early => {
-            if has_where {
-                made::first(arena, made::pair(arena, conditions, definition)?)
+            if has_where(generics) {
+                early(arena, conditions, definition)
             } else {
-                made::second(arena, made::pair(arena, definition, conditions)?)
+                late(arena, conditions, definition)
             }
         }
-        WhereClausePlacement::Late => {
-            made::second(arena, made::pair(arena, definition, conditions)?)
-        }
+        WhereClausePlacement::Late => late(arena, conditions, definition),
     }
 }
 
-/// Whether there are conditions.
-pub fn has_where<E>(generics: &Generics<E>) -> bool
+// Whether there are conditions.
+fn has_where<E>(generics: &Generics<E>) -> bool
     ensures { result ≡ views.has_where generics.now }
 {
     match &generics.where_clause {
@@ -89,16 +113,16 @@ pub fn has_where<E>(generics: &Generics<E>) -> bool
 pub fn no_bounds<'a>(arena: &'a Arena) -> Result<Tree<'a>, AllocError>
     ensures { IfOk result (λ x. x ≡ views.no_bounds) }
 {
-    made::node(arena, Kind::BoundsColon, absent(arena)?)
+    step::node(arena, Kind::BoundsColon, absent(arena))
 }
 
 /// Of a type with another name what stands behind its parameters.
 #[derive(Drop)]
 pub struct Defined<'t, 'a> {
     /// Its bounds.
-    pub bounds: Tree<'a>,
+    pub bounds: Result<Tree<'a>, AllocError>,
     /// What it is, and its conditions.
-    pub end: Tree<'a>,
+    pub end: Result<Tree<'a>, AllocError>,
     /// The `;`.
     pub semi_token: &'t token::Semi,
 }
@@ -117,28 +141,29 @@ pub fn alias_form<'t, 'a, E: ToTree>(
     generics: &'a Generics<E>,
     defined: Defined<'t, 'a>,
 ) -> Result<Tree<'a>, AllocError>
-    ensures { IfOk result (λ x. x ≡ views.alias_form E.tree (place_of place) word.now ident.now generics.now
-        defined.entry.bounds defined.entry.end (words.mark defined.entry.semi_token.now)) }
+    ensures { (x y : GivenTree) → IfOk defined.entry.bounds (λ r. r ≡ x) → IfOk defined.entry.end (λ r. r ≡ y)
+        → IfOk result (λ r. r ≡ views.alias_form E.tree (place_of place) word.now ident.now generics.now x y
+        (words.mark defined.entry.semi_token.now)) }
 {
     let Defined {
         bounds,
         end,
         semi_token,
     } = defined;
-    let behind = row::three(
+    let behind = three(
         arena,
-        made::called(arena, Part::Bounds, bounds)?,
-        made::called(arena, Part::Value, end)?,
-        sign(Sign::Semi, semi_token)?,
-    )?;
-    let parts = row::four(
+        called(arena, Part::Bounds, bounds),
+        called(arena, Part::Value, end),
+        sign(Sign::Semi, semi_token),
+    );
+    let parts = four(
         arena,
-        word.to_tree(arena)?,
-        named(arena, ident)?,
-        generics_of(arena, generics)?,
+        word.to_tree(arena),
+        named(arena, ident),
+        generics_of(arena, generics),
         behind,
-    )?;
-    made::node(arena, Kind::ATypeAlias(place), parts)
+    );
+    step::node(arena, Kind::ATypeAlias(place), parts)
 }
 
 /// A type with another name.
@@ -153,17 +178,16 @@ pub fn item_type<'a, E: ToTree>(
     ensures { IfOk result (λ x. x ≡ views.item_type E.tree node.now) }
 {
     let (place, generics) = (node.where_clause_placement, &node.generics);
-    let definition = definition(arena, &node.eq_token, type_(arena, &node.ty)?)?;
-    let conditions = where_of(arena, generics)?;
-    let end = type_end(arena, place, has_where(generics), conditions, definition)?;
-    let bounds = no_bounds(arena)?;
+    let definition = definition(arena, &node.eq_token, type_(arena, &node.ty));
+    let conditions = where_of(arena, generics);
+    let end = type_end(arena, place, generics, conditions, definition);
     let defined = Defined {
-        bounds,
+        bounds: no_bounds(arena),
         end,
         semi_token: &node.semi_token,
     };
     let word = &node.type_token;
-    let form = alias_form(arena, Place::InFile, word, &node.ident, generics, defined)?;
-    let item = made::first_behind(arena, 13, form)?;
-    item_of(arena, &node.attrs, visibility(arena, &node.vis)?, item)
+    let form = alias_form(arena, Place::InFile, word, &node.ident, generics, defined);
+    let item = alternative(arena, 13, form);
+    item_of(arena, &node.attrs, visibility(arena, &node.vis), item)
 }

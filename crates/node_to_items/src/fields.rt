@@ -2,16 +2,18 @@
 
 ghost use Rattle.node_views.specs.Data as views;
 ghost use Rattle.node_words.specs.Words as words;
-ghost use Rattle.std.specs.Prelude.{◌≡◌, IfOk, Some};
+ghost use Rattle.std.specs.Prelude.{◌≡◌, IfOk, None, Some};
 ghost use Rattle.syn_grammar.specs.Name as n;
 ghost use Rattle.syn_grammar.specs.Tree as t;
+ghost use Rattle.syn_grammar.specs.Tree.{Tree as GivenTree};
 
 use node_items::data::{Field, Fields, FieldsNamed, FieldsUnnamed, Variant};
 use node_paths::attribute::Attribute;
 use node_to::leaf::{name_or, sign, sign_or};
 use node_to::list::{Way, listed, turns};
-use node_to::row::{self, enclosed, whole};
-use node_to::step::absent;
+use node_to::step::{
+    self, absent, alternative, called, enclosed, expression, first, five, four, pair, three,
+};
 use node_to::to_tree::ToTree;
 use node_to_types::visibility::visibility;
 use node_to_types::whole_types::type_;
@@ -33,8 +35,8 @@ fn all_attributes<'a, E: ToTree>(
 ) -> Result<Tree<'a>, AllocError>
     ensures { IfOk result (λ x. x ≡ views.all_attributes E.tree attributes.now) }
 {
-    let each = turns(arena, attributes)?;
-    made::node(arena, Kind::OuterAttributes, each)
+    let each = turns(arena, attributes);
+    step::node(arena, Kind::OuterAttributes, each)
 }
 
 /// `=` and a value, of the value's form.
@@ -46,13 +48,24 @@ fn all_attributes<'a, E: ToTree>(
 pub fn value<'a>(
     arena: &'a Arena,
     eq_token: &token::Eq,
-    form: Tree<'a>,
+    form: Result<Tree<'a>, AllocError>,
 ) -> Result<Tree<'a>, AllocError>
-    ensures { IfOk result (λ x. x ≡ t.Pair (words.mark eq_token.now) (t.Called n.the_value
-        (words.expression form.entry))) }
+    ensures { (x : GivenTree) → IfOk form.entry (λ r. r ≡ x) → IfOk result (λ r. r ≡ t.Pair (words.mark eq_token.now)
+        (t.Called n.the_value (words.expression x))) }
 {
-    let named = made::called(arena, Part::Value, whole(arena, form)?)?;
-    made::pair(arena, sign(Sign::Eq, eq_token)?, named)
+    let named = called(arena, Part::Value, expression(arena, form));
+    pair(arena, sign(Sign::Eq, eq_token), named)
+}
+
+// `=` and a value.
+fn value_of<'a, E: ToTree>(
+    arena: &'a Arena,
+    eq_token: &token::Eq,
+    node: &'a E,
+) -> Result<Tree<'a>, AllocError>
+    ensures { IfOk result (λ x. x ≡ views.value E.tree (eq_token.now, node.now)) }
+{
+    value(arena, eq_token, node.to_tree(arena))
 }
 
 /// `=` and a value, if they are there.
@@ -68,10 +81,7 @@ pub fn optional_value<'a, E: ToTree>(
 {
     match held {
         None => absent(arena),
-        Some((eq_token, node)) => {
-            let form = node.to_tree(arena)?;
-            made::first(arena, value(arena, eq_token, form)?)
-        }
+        Some((eq_token, node)) => first(arena, value_of(arena, eq_token, node)),
     }
 }
 
@@ -84,20 +94,37 @@ fn named_field<'a, E: ToTree>(
 ) -> Result<Tree<'a>, AllocError>
     ensures { IfOk result (λ x. x ≡ views.field_of E.tree (Some ident.now) node.now) }
 {
-    let behind = row::three(
+    let behind = three(
         arena,
-        sign_or(Sign::Colon, &node.colon_token)?,
-        type_(arena, &node.ty)?,
-        optional_value(arena, &node.default)?,
-    )?;
-    let parts = row::four(
+        sign_or(Sign::Colon, &node.colon_token),
+        type_(arena, &node.ty),
+        optional_value(arena, &node.default),
+    );
+    let parts = four(
         arena,
-        all_attributes(arena, &node.attrs)?,
-        visibility(arena, &node.vis)?,
-        name_or(arena, Keyword::Underscore, ident)?,
+        all_attributes(arena, &node.attrs),
+        visibility(arena, &node.vis),
+        name_or(arena, Keyword::Underscore, ident),
         behind,
-    )?;
-    made::node(arena, Kind::NamedField, parts)
+    );
+    step::node(arena, Kind::NamedField, parts)
+}
+
+// A field without a name.
+fn unnamed_field<'a, E: ToTree>(
+    arena: &'a Arena,
+    node: &'a Field<E>,
+) -> Result<Tree<'a>, AllocError>
+    ensures { IfOk result (λ x. x ≡ views.field_of E.tree None node.now) }
+{
+    let parts = four(
+        arena,
+        all_attributes(arena, &node.attrs),
+        visibility(arena, &node.vis),
+        type_(arena, &node.ty),
+        optional_value(arena, &node.default),
+    );
+    step::node(arena, Kind::UnnamedField, parts)
 }
 
 /// A field: one without a name has no `:` either.
@@ -110,16 +137,7 @@ pub fn field<'a, E: ToTree>(arena: &'a Arena, node: &'a Field<E>) -> Result<Tree
 {
     match &node.ident {
         Some(ident) => named_field(arena, ident, node),
-        None => {
-            let parts = row::four(
-                arena,
-                all_attributes(arena, &node.attrs)?,
-                visibility(arena, &node.vis)?,
-                type_(arena, &node.ty)?,
-                optional_value(arena, &node.default)?,
-            )?;
-            made::node(arena, Kind::UnnamedField, parts)
-        }
+        None => unnamed_field(arena, node),
     }
 }
 
@@ -146,9 +164,9 @@ pub fn fields_named<'a, E: ToTree>(
 ) -> Result<Tree<'a>, AllocError>
     ensures { IfOk result (λ x. x ≡ views.fields_named E.tree node.now) }
 {
-    let inside = listed(arena, Separator::Comma, &AsField, &node.named)?;
-    let group = enclosed(arena, &node.brace_token, inside)?;
-    made::node(arena, Kind::NamedFields, group)
+    let inside = listed(arena, Separator::Comma, &AsField, &node.named);
+    let group = enclosed(arena, &node.brace_token, inside);
+    step::node(arena, Kind::NamedFields, group)
 }
 
 /// Fields without names.
@@ -162,9 +180,9 @@ pub fn fields_unnamed<'a, E: ToTree>(
 ) -> Result<Tree<'a>, AllocError>
     ensures { IfOk result (λ x. x ≡ views.fields_unnamed E.tree node.now) }
 {
-    let inside = listed(arena, Separator::Comma, &AsField, &node.unnamed)?;
-    let group = enclosed(arena, &node.paren_token, inside)?;
-    made::node(arena, Kind::UnnamedFields, group)
+    let inside = listed(arena, Separator::Comma, &AsField, &node.unnamed);
+    let group = enclosed(arena, &node.paren_token, inside);
+    step::node(arena, Kind::UnnamedFields, group)
 }
 
 /// The fields of a variant.
@@ -179,8 +197,8 @@ pub fn variant_fields<'a, E: ToTree>(
     ensures { IfOk result (λ x. x ≡ views.variant_fields E.tree fields.now) }
 {
     match fields {
-        Fields::Named(node) => made::first_behind(arena, 0, fields_named(arena, node)?),
-        Fields::Unnamed(node) => made::first_behind(arena, 1, fields_unnamed(arena, node)?),
+        Fields::Named(node) => alternative(arena, 0, fields_named(arena, node)),
+        Fields::Unnamed(node) => alternative(arena, 1, fields_unnamed(arena, node)),
         Fields::Unit => made::seconds(arena, 2, made::nil()),
     }
 }
@@ -196,15 +214,15 @@ pub fn variant<'a, E: ToTree>(
 ) -> Result<Tree<'a>, AllocError>
     ensures { IfOk result (λ x. x ≡ views.variant E.tree node.now) }
 {
-    let parts = row::five(
+    let parts = five(
         arena,
-        all_attributes(arena, &node.attrs)?,
-        made::nil(),
-        node.ident.to_tree(arena)?,
-        variant_fields(arena, &node.fields)?,
-        optional_value(arena, &node.discriminant)?,
-    )?;
-    made::node(arena, Kind::Variant, parts)
+        all_attributes(arena, &node.attrs),
+        Ok(made::nil()),
+        node.ident.to_tree(arena),
+        variant_fields(arena, &node.fields),
+        optional_value(arena, &node.discriminant),
+    );
+    step::node(arena, Kind::Variant, parts)
 }
 
 /// As a variant.

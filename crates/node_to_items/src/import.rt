@@ -4,22 +4,22 @@
 
 ghost use Rattle.node_to.specs.Elements.{element_of};
 ghost use Rattle.node_to_items.specs.Imports.{as_element, import_branch, import_element, import_kind, import_tree};
-ghost use Rattle.node_to_items.specs.Imports.{name_alone, name_renamed, path_before};
+ghost use Rattle.node_to_items.specs.Imports.{name_alone, name_renamed, other_name, path_before};
 ghost use Rattle.node_views.specs.Imports as views;
 ghost use Rattle.node_words.specs.Words as words;
-ghost use Rattle.reader_table.specs.Kinds.{kind_of};
 ghost use Rattle.rust_leaf.specs.Leaf.{ident_text};
 ghost use Rattle.std.specs.Prelude.{◌≡◌, IfOk, map};
 ghost use Rattle.syn_grammar.specs.Items.{use_words};
+ghost use Rattle.syn_grammar.specs.Kind as k;
 ghost use Rattle.syn_grammar.specs.Tree as t;
+ghost use Rattle.syn_grammar.specs.Tree.{Tree as GivenTree};
 ghost use Rattle.syn_grammar.specs.Words.{is_among};
 
 use crate::comma::comma_place;
 use crate::item::item_of;
 use node_items::import::{ItemUse, UseName, UsePath, UseRename, UseTree};
 use node_to::leaf::{name_or, sign};
-use node_to::row::{self, enclosed};
-use node_to::step::absent;
+use node_to::step::{self, absent, alternative, called, enclosed, first, pair, second, three};
 use node_to::to_tree::ToTree;
 use node_to_types::visibility::visibility;
 use reader_table::kind::Kind;
@@ -68,19 +68,24 @@ fn use_name<'a>(arena: &'a Arena, ident: &'a Ident) -> Result<Tree<'a>, AllocErr
 fn name_alone<'a>(arena: &'a Arena, node: &'a UseName) -> Result<Tree<'a>, AllocError>
     ensures { IfOk result (λ x. x ≡ name_alone node.now) }
 {
-    let name = use_name(arena, &node.ident)?;
-    made::pair(arena, name, made::second(arena, absent(arena)?)?)
+    let name = use_name(arena, &node.ident);
+    pair(arena, name, second(arena, absent(arena)))
+}
+
+// `as` and another name.
+fn behind_as<'a>(arena: &'a Arena, node: &'a UseRename) -> Result<Tree<'a>, AllocError>
+    ensures { IfOk result (λ x. x ≡ other_name node.now) }
+{
+    let other = name_or(arena, Keyword::Underscore, &node.rename);
+    pair(arena, node.as_token.to_tree(arena), other)
 }
 
 // A name that becomes another one.
 fn name_renamed<'a>(arena: &'a Arena, node: &'a UseRename) -> Result<Tree<'a>, AllocError>
     ensures { IfOk result (λ x. x ≡ name_renamed node.now) }
 {
-    let word = node.as_token.to_tree(arena)?;
-    let other = name_or(arena, Keyword::Underscore, &node.rename)?;
-    let both = made::first(arena, made::pair(arena, word, other)?)?;
-    let name = use_name(arena, &node.ident)?;
-    made::pair(arena, name, made::second(arena, both)?)
+    let behind = second(arena, first(arena, behind_as(arena, node)));
+    pair(arena, use_name(arena, &node.ident), behind)
 }
 
 // A name, `::`, and what stands behind it.
@@ -92,29 +97,67 @@ fn path_before<'a>(
 ) -> Result<Tree<'a>, AllocError>
     ensures { IfOk result (λ x. x ≡ path_before node.now below.entry) }
 {
-    let mark = sign(Sign::PathSep, &node.colon2_token)?;
-    let both = made::first(arena, made::pair(arena, mark, below)?)?;
-    made::pair(arena, use_name(arena, &node.ident)?, both)
+    let mark = sign(Sign::PathSep, &node.colon2_token);
+    let behind = first(arena, pair(arena, mark, Ok(below)));
+    pair(arena, use_name(arena, &node.ident), behind)
 }
 
-// The kind of an import there.
-fn import_kind(is_top: bool) -> Kind
-    ensures { kind_of result ≡ import_kind is_top }
+// A node of an import, of its kind there.
+fn import_node<'a>(
+    arena: &'a Arena,
+    is_top: bool,
+    inner: Result<Tree<'a>, AllocError>,
+) -> Result<Tree<'a>, AllocError>
+    ensures { (x : GivenTree) → IfOk inner.entry (λ r. r ≡ x)
+        → IfOk result (λ r. r ≡ t.Node (import_kind is_top) x) }
 {
     if is_top {
-        Kind::UseRooted
+        step::node(arena, Kind::UseRooted, inner)
     } else {
-        Kind::UseTree
+        step::node(arena, Kind::UseTree, inner)
     }
 }
 
-// An import that begins with a name.
-fn branch<'a>(arena: &'a Arena, is_top: bool, path: Tree<'a>) -> Result<Tree<'a>, AllocError>
-    ensures { IfOk result (λ x. x ≡ import_branch is_top (t.Second path.entry)) }
+// An import that is no group of imports.
+fn branch<'a>(
+    arena: &'a Arena,
+    is_top: bool,
+    inner: Result<Tree<'a>, AllocError>,
+) -> Result<Tree<'a>, AllocError>
+    ensures { (x : GivenTree) → IfOk inner.entry (λ r. r ≡ x) → IfOk result (λ r. r ≡ import_branch is_top x) }
 {
-    let named = made::second(arena, path)?;
-    let branch = made::node(arena, Kind::UseBranch, named)?;
-    made::node(arena, import_kind(is_top), made::second(arena, branch)?)
+    let branch = step::node(arena, Kind::UseBranch, inner);
+    import_node(arena, is_top, second(arena, branch))
+}
+
+// A name, `::`, and what stands behind it, as an import.
+fn path<'a>(
+    arena: &'a Arena,
+    is_top: bool,
+    node: &'a UsePath,
+    below: Tree<'a>,
+) -> Result<Tree<'a>, AllocError>
+    ensures { IfOk result (λ x. x ≡ import_branch is_top (t.Second (path_before node.now below.entry))) }
+{
+    branch(
+        arena,
+        is_top,
+        second(arena, path_before(arena, node, below)),
+    )
+}
+
+// A name alone as an import.
+fn name<'a>(arena: &'a Arena, is_top: bool, node: &'a UseName) -> Result<Tree<'a>, AllocError>
+    ensures { IfOk result (λ x. x ≡ import_branch is_top (t.Second (name_alone node.now))) }
+{
+    branch(arena, is_top, second(arena, name_alone(arena, node)))
+}
+
+// A name that becomes another one as an import.
+fn rename<'a>(arena: &'a Arena, is_top: bool, node: &'a UseRename) -> Result<Tree<'a>, AllocError>
+    ensures { IfOk result (λ x. x ≡ import_branch is_top (t.Second (name_renamed node.now))) }
+{
+    branch(arena, is_top, second(arena, name_renamed(arena, node)))
 }
 
 // All names.
@@ -126,9 +169,7 @@ fn glob<'a>(
 ) -> Result<Tree<'a>, AllocError>
     ensures { IfOk result (λ x. x ≡ import_branch is_top (t.First (words.mark star_token.now))) }
 {
-    let star = made::first(arena, sign(Sign::Star, star_token)?)?;
-    let branch = made::node(arena, Kind::UseBranch, star)?;
-    made::node(arena, import_kind(is_top), made::second(arena, branch)?)
+    branch(arena, is_top, first(arena, sign(Sign::Star, star_token)))
 }
 
 // Several imports in their braces.
@@ -141,8 +182,16 @@ fn braces<'a>(
     ensures { IfOk result (λ x. x ≡ t.Node (import_kind is_top) (t.First (words.enclosed brace_token.now
         each.entry))) }
 {
-    let group = enclosed(arena, brace_token, each)?;
-    made::node(arena, import_kind(is_top), made::first(arena, group)?)
+    let group = enclosed(arena, brace_token, Ok(each));
+    import_node(arena, is_top, first(arena, group))
+}
+
+// An import in braces that no path stands before.
+fn top<'a>(arena: &'a Arena, tree: Result<Tree<'a>, AllocError>) -> Result<Tree<'a>, AllocError>
+    ensures { (x : GivenTree) → IfOk tree.entry (λ r. r ≡ x)
+        → IfOk result (λ r. r ≡ t.Node k.UseTop (t.Second x)) }
+{
+    step::node(arena, Kind::UseTop, second(arena, tree))
 }
 
 // What an import is as an element of braces.
@@ -150,7 +199,7 @@ fn as_element<'a>(arena: &'a Arena, is_top: bool, tree: Tree<'a>) -> Result<Tree
     ensures { IfOk result (λ x. x ≡ as_element is_top tree.entry) }
 {
     if is_top {
-        made::node(arena, Kind::UseTop, made::second(arena, tree)?)
+        top(arena, Ok(tree))
     } else {
         Ok(tree)
     }
@@ -217,12 +266,12 @@ fn import_tree<'a>(
     ensures { IfOk result (λ x. x ≡ import_tree is_top node.now) }
 {
     match node {
-        UseTree::Path(path) => {
-            let below = import_tree(arena, false, &path.tree)?;
-            branch(arena, is_top, path_before(arena, path, below)?)
+        UseTree::Path(inner) => {
+            let below = import_tree(arena, false, &inner.tree)?;
+            path(arena, is_top, inner, below)
         }
-        UseTree::Name(name) => branch(arena, is_top, name_alone(arena, name)?),
-        UseTree::Rename(name) => branch(arena, is_top, name_renamed(arena, name)?),
+        UseTree::Name(inner) => name(arena, is_top, inner),
+        UseTree::Rename(inner) => rename(arena, is_top, inner),
         UseTree::Glob(all) => glob(arena, is_top, &all.star_token),
         UseTree::Group(group) => {
             let each = import_list(arena, is_top, &group.items)?;
@@ -242,8 +291,22 @@ pub fn use_tree<'a>(arena: &'a Arena, node: &'a UseTree) -> Result<Tree<'a>, All
     import_tree(arena, false, node)
 }
 
-// What is imported, which may begin with `::`.
+// What is imported behind `::`.
 #[tactic(auto, unfolding(syn_kinds::specs::Table::marks, syn_kinds::specs::Table::sign))]
+fn led<'a>(
+    arena: &'a Arena,
+    leading_colon: &token::PathSep,
+    node: &'a UseTree,
+) -> Result<Tree<'a>, AllocError>
+    ensures { IfOk result (λ x. x ≡ t.Node k.UseTop (t.First (t.Pair (words.mark leading_colon.now)
+        (views.use_tree node.now)))) }
+{
+    let mark = sign(Sign::PathSep, leading_colon);
+    let both = pair(arena, mark, use_tree(arena, node));
+    step::node(arena, Kind::UseTop, first(arena, both))
+}
+
+// What is imported, which may begin with `::`.
 fn use_top<'a>(
     arena: &'a Arena,
     leading_colon: &Option<token::PathSep>,
@@ -252,15 +315,8 @@ fn use_top<'a>(
     ensures { IfOk result (λ x. x ≡ views.use_top leading_colon.now (views.use_tree node.now)) }
 {
     match leading_colon {
-        None => {
-            let inner = import_tree(arena, true, node)?;
-            made::node(arena, Kind::UseTop, made::second(arena, inner)?)
-        }
-        Some(token) => {
-            let inner = use_tree(arena, node)?;
-            let both = made::pair(arena, sign(Sign::PathSep, token)?, inner)?;
-            made::node(arena, Kind::UseTop, made::first(arena, both)?)
-        }
+        None => top(arena, import_tree(arena, true, node)),
+        Some(token) => led(arena, token, node),
     }
 }
 
@@ -276,13 +332,13 @@ pub fn item_use<'a, E: ToTree>(
 ) -> Result<Tree<'a>, AllocError>
     ensures { IfOk result (λ x. x ≡ views.item_use E.tree node.now) }
 {
-    let top = use_top(arena, &node.leading_colon, &node.tree)?;
-    let parts = row::three(
+    let top = use_top(arena, &node.leading_colon, &node.tree);
+    let parts = three(
         arena,
-        node.use_token.to_tree(arena)?,
-        made::called(arena, Part::Path, top)?,
-        sign(Sign::Semi, &node.semi_token)?,
-    )?;
-    let item = made::first_behind(arena, 3, made::node(arena, Kind::AUse, parts)?)?;
-    item_of(arena, &node.attrs, visibility(arena, &node.vis)?, item)
+        node.use_token.to_tree(arena),
+        called(arena, Part::Path, top),
+        sign(Sign::Semi, &node.semi_token),
+    );
+    let item = alternative(arena, 3, step::node(arena, Kind::AUse, parts));
+    item_of(arena, &node.attrs, visibility(arena, &node.vis), item)
 }

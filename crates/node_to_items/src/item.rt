@@ -3,18 +3,17 @@
 ghost use Rattle.node_views.specs.Items as views;
 ghost use Rattle.node_words.specs.Words as words;
 ghost use Rattle.std.specs.Prelude.{◌≡◌, IfOk};
+ghost use Rattle.syn_grammar.specs.Tree.{Tree as GivenTree};
 
 use node_paths::attribute::Attribute;
 use node_to::attributes::outer_attributes;
-use node_to::row;
-use node_to::step::absent;
+use node_to::step::{self, absent, alternative, called, first, three};
 use node_to::to_tree::ToTree;
 use node_to::token::raw;
 use proc_macro2::tree::TokenStream;
 use reader_table::kind::Kind;
 use reader_table::part::Part;
 use reader_tree::arena::Arena;
-use reader_tree::made;
 use reader_tree::tree::Tree;
 use std::alloc::AllocError;
 use syn_kinds::token;
@@ -27,18 +26,19 @@ use syn_kinds::token;
 pub fn item_of<'a, E: ToTree>(
     arena: &'a Arena,
     attributes: &'a [Attribute<E>],
-    visibility: Tree<'a>,
-    item: Tree<'a>,
+    visibility: Result<Tree<'a>, AllocError>,
+    item: Result<Tree<'a>, AllocError>,
 ) -> Result<Tree<'a>, AllocError>
-    ensures { IfOk result (λ x. x ≡ views.item_of E.tree attributes.now visibility.entry item.entry) }
+    ensures { (x y : GivenTree) → IfOk visibility.entry (λ r. r ≡ x) → IfOk item.entry (λ r. r ≡ y)
+        → IfOk result (λ r. r ≡ views.item_of E.tree attributes.now x y) }
 {
-    let parts = row::three(
+    let parts = three(
         arena,
-        outer_attributes(arena, attributes)?,
-        made::called(arena, Part::Visibility, visibility)?,
-        made::called(arena, Part::Item, item)?,
-    )?;
-    made::node(arena, Kind::AnItem, made::first(arena, parts)?)
+        outer_attributes(arena, attributes),
+        called(arena, Part::Visibility, visibility),
+        called(arena, Part::Item, item),
+    );
+    step::node(arena, Kind::AnItem, first(arena, parts))
 }
 
 /// No visibility.
@@ -49,7 +49,7 @@ pub fn item_of<'a, E: ToTree>(
 pub fn private<'a>(arena: &'a Arena) -> Result<Tree<'a>, AllocError>
     ensures { IfOk result (λ x. x ≡ views.private) }
 {
-    made::node(arena, Kind::Visibility, absent(arena)?)
+    step::node(arena, Kind::Visibility, absent(arena))
 }
 
 /// An item that is kept as its tokens.
@@ -60,7 +60,14 @@ pub fn private<'a>(arena: &'a Arena) -> Result<Tree<'a>, AllocError>
 pub fn verbatim<'a>(arena: &'a Arena, tokens: &'a TokenStream) -> Result<Tree<'a>, AllocError>
     ensures { IfOk result (λ x. x ≡ views.verbatim tokens.now) }
 {
-    made::node(arena, Kind::AnItem, raw(arena, tokens)?)
+    step::node(arena, Kind::AnItem, raw(arena, tokens))
+}
+
+// `unsafe`.
+fn declared<'a>(arena: &'a Arena, token: &'a token::Unsafe) -> Result<Tree<'a>, AllocError>
+    ensures { IfOk result (λ x. x ≡ views.unsafety token.now) }
+{
+    called(arena, Part::Safety, token.to_tree(arena))
 }
 
 /// `unsafe`, if it is there.
@@ -76,10 +83,7 @@ pub fn unsafety<'a>(
 {
     match held {
         None => absent(arena),
-        Some(token) => {
-            let named = made::called(arena, Part::Safety, token.to_tree(arena)?)?;
-            made::first(arena, named)
-        }
+        Some(token) => first(arena, declared(arena, token)),
     }
 }
 
@@ -93,12 +97,13 @@ pub fn by_unsafety<'a>(
     held: &Option<token::Unsafe>,
     without: usize,
     behind: usize,
-    item: Tree<'a>,
+    item: Result<Tree<'a>, AllocError>,
 ) -> Result<Tree<'a>, AllocError>
-    ensures { IfOk result (λ x. x ≡ views.by_unsafety held.now without behind item.entry) }
+    ensures { (x : GivenTree) → IfOk item.entry (λ r. r ≡ x)
+        → IfOk result (λ r. r ≡ views.by_unsafety held.now without behind x) }
 {
     match held {
-        None => made::first_behind(arena, without, item),
-        Some(_) => made::first_behind(arena, behind, item),
+        None => alternative(arena, without, item),
+        Some(_) => alternative(arena, behind, item),
     }
 }

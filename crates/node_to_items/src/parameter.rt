@@ -3,8 +3,12 @@
 ghost use Rattle.node_to.specs.Elements.{element_of};
 ghost use Rattle.node_to_items.specs.Signatures.{parameter};
 ghost use Rattle.node_views.specs.Functions as views;
+ghost use Rattle.node_words.specs.Words as words;
 ghost use Rattle.reader_tree.specs.Forms.{elements as in_list};
-ghost use Rattle.std.specs.Prelude.{◌≡◌, IfOk, map};
+ghost use Rattle.std.specs.Prelude.{◌≡◌, IfOk, Some, map};
+ghost use Rattle.syn_grammar.specs.Name as n;
+ghost use Rattle.syn_grammar.specs.Tree as t;
+ghost use Rattle.syn_grammar.specs.Tree.{Tree as GivenTree};
 
 use crate::comma::comma_place;
 use node_items::function::{FnArg, Receiver, ReceiverKind, Signature, Variadic};
@@ -13,8 +17,7 @@ use node_patterns::kinds::PatType;
 use node_to::attributes::outer_attributes;
 use node_to::leaf::{optional, sign};
 use node_to::list::{Way, listed};
-use node_to::row;
-use node_to::step::absent;
+use node_to::step::{self, absent, alternative, called, first, four, last, pair, second, three};
 use node_to::to_tree::ToTree;
 use reader_table::kind::Kind;
 use reader_table::op::Separator;
@@ -26,10 +29,60 @@ use reader_tree::placed_spacing::PlacedSpacing;
 use reader_tree::tree::{Element, Tree};
 use rust_leaf::punct::Spacing;
 use std::alloc::AllocError;
+use syn_kinds::lifetime::Lifetime;
 use syn_kinds::token;
 
-// How a method takes what it is called on: behind `&` a `mut` of its own isn't written.
+// What a method is called on, behind `&`: a `mut` of its own isn't written.
 #[tactic(auto, unfolding(syn_kinds::specs::Table::marks, syn_kinds::specs::Table::sign))]
+fn by_reference<'a, E>(
+    arena: &'a Arena,
+    node: &'a Receiver<E>,
+    and_token: &token::And,
+    lifetime: &'a Option<Lifetime>,
+    mutability: &'a Option<token::Mut>,
+) -> Result<Tree<'a>, AllocError>
+    ensures { IfOk result (λ x. x ≡ t.First (t.Pair (words.mark and_token.now)
+        (t.Pair (words.optional words.lifetime lifetime.now) (t.Pair (words.optional words.keyword mutability.now)
+        (words.keyword node.now.self_token))))) }
+{
+    let parts = four(
+        arena,
+        sign(Sign::And, and_token),
+        optional(arena, lifetime),
+        optional(arena, mutability),
+        node.self_token.to_tree(arena),
+    );
+    first(arena, parts)
+}
+
+// What a method is called on, by value, and what stands behind it.
+fn by_value<'a, E>(
+    arena: &'a Arena,
+    node: &'a Receiver<E>,
+    behind: Result<Tree<'a>, AllocError>,
+) -> Result<Tree<'a>, AllocError>
+    ensures { (x : GivenTree) → IfOk behind.entry (λ r. r ≡ x) → IfOk result (λ r. r ≡ t.Second
+        (t.Pair (words.optional words.keyword node.now.mutability) (t.Pair (words.keyword node.now.self_token) x))) }
+{
+    let mutability = optional(arena, &node.mutability);
+    let word = node.self_token.to_tree(arena);
+    second(arena, three(arena, mutability, word, behind))
+}
+
+// `:` and the type of what a method is called on.
+#[tactic(auto, unfolding(syn_kinds::specs::Table::marks, syn_kinds::specs::Table::sign))]
+fn said<'a, E: ToTree>(
+    arena: &'a Arena,
+    colon_token: &token::Colon,
+    ty: &'a Box<E>,
+) -> Result<Tree<'a>, AllocError>
+    ensures { IfOk result (λ x. x ≡ t.First (t.Pair (words.mark colon_token.now) (E.tree ty.now.value))) }
+{
+    let mark = sign(Sign::Colon, colon_token);
+    first(arena, pair(arena, mark, ty.to_tree(arena)))
+}
+
+// How a method takes what it is called on.
 fn receiver_of<'a, E: ToTree>(
     arena: &'a Arena,
     node: &'a Receiver<E>,
@@ -38,26 +91,11 @@ fn receiver_of<'a, E: ToTree>(
 {
     match &node.kind {
         ReceiverKind::Reference(and_token, lifetime, mutability) => {
-            let parts = row::four(
-                arena,
-                sign(Sign::And, and_token)?,
-                optional(arena, lifetime)?,
-                optional(arena, mutability)?,
-                node.self_token.to_tree(arena)?,
-            )?;
-            made::first(arena, parts)
+            by_reference(arena, node, and_token, lifetime, mutability)
         }
-        ReceiverKind::Value => {
-            let mutability = optional(arena, &node.mutability)?;
-            let word = node.self_token.to_tree(arena)?;
-            made::second(arena, row::three(arena, mutability, word, absent(arena)?)?)
-        }
+        ReceiverKind::Value => by_value(arena, node, absent(arena)),
         ReceiverKind::Typed(colon_token, ty) => {
-            let mark = sign(Sign::Colon, colon_token)?;
-            let typed = made::first(arena, made::pair(arena, mark, ty.to_tree(arena)?)?)?;
-            let mutability = optional(arena, &node.mutability)?;
-            let word = node.self_token.to_tree(arena)?;
-            made::second(arena, row::three(arena, mutability, word, typed)?)
+            by_value(arena, node, said(arena, colon_token, ty))
         }
     }
 }
@@ -66,13 +104,13 @@ fn receiver_of<'a, E: ToTree>(
 fn parameter<'a, E: ToTree>(
     arena: &'a Arena,
     attributes: &'a [Attribute<E>],
-    behind: Tree<'a>,
+    behind: Result<Tree<'a>, AllocError>,
 ) -> Result<Tree<'a>, AllocError>
-    ensures { IfOk result (λ x. x ≡ parameter E.tree attributes.now behind.entry) }
+    ensures { (x : GivenTree) → IfOk behind.entry (λ r. r ≡ x)
+        → IfOk result (λ r. r ≡ parameter E.tree attributes.now x) }
 {
-    let attributes = outer_attributes(arena, attributes)?;
-    let both = made::pair(arena, attributes, behind)?;
-    made::node(arena, Kind::Parameter, both)
+    let attributes = outer_attributes(arena, attributes);
+    step::node(arena, Kind::Parameter, pair(arena, attributes, behind))
 }
 
 /// What a method is called on.
@@ -86,10 +124,9 @@ pub fn receiver<'a, E: ToTree>(
 ) -> Result<Tree<'a>, AllocError>
     ensures { IfOk result (λ x. x ≡ views.receiver E.tree node.now) }
 {
-    let form = made::node(arena, Kind::Receiver, receiver_of(arena, node)?)?;
-    let named = made::called(arena, Part::Receiver, form)?;
-    let behind = made::first_behind(arena, 0, named)?;
-    parameter(arena, &node.attrs, behind)
+    let form = step::node(arena, Kind::Receiver, receiver_of(arena, node));
+    let named = called(arena, Part::Receiver, form);
+    parameter(arena, &node.attrs, alternative(arena, 0, named))
 }
 
 /// A pattern with its type, as a parameter.
@@ -101,14 +138,14 @@ pub fn receiver<'a, E: ToTree>(
 pub fn typed<'a, E: ToTree>(arena: &'a Arena, node: &'a PatType<E>) -> Result<Tree<'a>, AllocError>
     ensures { IfOk result (λ x. x ≡ views.typed E.tree node.now) }
 {
-    let ty = made::called(arena, Part::Type, node.ty.to_tree(arena)?)?;
-    let parts = row::three(
+    let ty = called(arena, Part::Type, node.ty.to_tree(arena));
+    let parts = three(
         arena,
-        made::called(arena, Part::Pattern, node.pat.to_tree(arena)?)?,
-        sign(Sign::Colon, &node.colon_token)?,
-        made::second(arena, ty)?,
-    )?;
-    parameter(arena, &node.attrs, made::seconds(arena, 3, parts)?)
+        called(arena, Part::Pattern, node.pat.to_tree(arena)),
+        sign(Sign::Colon, &node.colon_token),
+        second(arena, ty),
+    );
+    parameter(arena, &node.attrs, last(arena, 3, parts))
 }
 
 /// A parameter.
@@ -137,27 +174,41 @@ impl<E: ToTree> Way<FnArg<E>> for AsParameter {
     }
 }
 
-// `...`, and the pattern before it, if it is there.
+// `...`
 #[tactic(auto, unfolding(syn_kinds::specs::Table::marks, syn_kinds::specs::Table::sign))]
+fn named_dots<'a>(arena: &'a Arena, dots: &token::DotDotDot) -> Result<Tree<'a>, AllocError>
+    ensures { IfOk result (λ x. x ≡ t.Called n.the_dots (words.mark dots.now)) }
+{
+    called(arena, Part::Dots, sign(Sign::DotDotDot, dots))
+}
+
+// `...`, and the pattern before it.
+#[tactic(auto, unfolding(syn_kinds::specs::Table::marks, syn_kinds::specs::Table::sign))]
+fn behind_pattern<'a, E: ToTree>(
+    arena: &'a Arena,
+    pattern: &'a Box<E>,
+    colon_token: &token::Colon,
+    dots: &token::DotDotDot,
+) -> Result<Tree<'a>, AllocError>
+    ensures { IfOk result (λ x. x ≡ words.last 3 (t.Pair (t.Called n.the_pattern (E.tree pattern.now.value))
+        (t.Pair (words.mark colon_token.now) (t.First (t.Called n.the_dots (words.mark dots.now)))))) }
+{
+    let parts = three(
+        arena,
+        called(arena, Part::Pattern, pattern.to_tree(arena)),
+        sign(Sign::Colon, colon_token),
+        first(arena, named_dots(arena, dots)),
+    );
+    last(arena, 3, parts)
+}
+
+// `...`, and the pattern before it, if it is there.
 fn dots<'a, E: ToTree>(arena: &'a Arena, node: &'a Variadic<E>) -> Result<Tree<'a>, AllocError>
     ensures { IfOk result (λ x. x ≡ views.dots E.tree node.now.pat node.now.dots) }
 {
     match &node.pat {
-        None => {
-            let mark = sign(Sign::DotDotDot, &node.dots)?;
-            made::first_behind(arena, 1, made::called(arena, Part::Dots, mark)?)
-        }
-        Some((pattern, colon_token)) => {
-            let mark = sign(Sign::DotDotDot, &node.dots)?;
-            let dots = made::called(arena, Part::Dots, mark)?;
-            let parts = row::three(
-                arena,
-                made::called(arena, Part::Pattern, pattern.to_tree(arena)?)?,
-                sign(Sign::Colon, colon_token)?,
-                made::first(arena, dots)?,
-            )?;
-            made::seconds(arena, 3, parts)
-        }
+        None => alternative(arena, 1, named_dots(arena, &node.dots)),
+        Some((pattern, colon_token)) => { behind_pattern(arena, pattern, colon_token, &node.dots) }
     }
 }
 
@@ -172,7 +223,7 @@ pub fn variadic<'a, E: ToTree>(
 ) -> Result<Tree<'a>, AllocError>
     ensures { IfOk result (λ x. x ≡ views.variadic E.tree node.now) }
 {
-    parameter(arena, &node.attrs, dots(arena, node)?)
+    parameter(arena, &node.attrs, dots(arena, node))
 }
 
 // The elements that these parameters are, each with a comma behind it.
@@ -216,12 +267,24 @@ fn ended<'a>(
     }
 }
 
+// The parameters of a function, each with a comma behind it, and `...`.
+#[tactic(auto, using(node_to::proofs::Lists::before_last))]
+fn before_dots<'a, E: ToTree>(
+    arena: &'a Arena,
+    node: &'a Signature<E>,
+    more: &'a Variadic<E>,
+) -> Result<Tree<'a>, AllocError>
+    ensures { IfOk result (λ x. x ≡ views.inputs E.tree node.now.inputs (Some more.now)) }
+{
+    let before = elements(arena, node.inputs.as_slice(), node.inputs.separators())?;
+    ended(arena, before, variadic(arena, more)?, &more.comma)
+}
+
 /// The parameters of a function, with `...` behind them, if it is there. A comma before it is filled in.
 ///
 /// # Errors
 ///
 /// Where there is no memory for them.
-#[tactic(auto, using(crate::proofs::Parameters::before_last))]
 pub fn inputs<'a, E: ToTree>(
     arena: &'a Arena,
     node: &'a Signature<E>,
@@ -230,9 +293,6 @@ pub fn inputs<'a, E: ToTree>(
 {
     match &node.variadic {
         None => listed(arena, Separator::Comma, &AsParameter, &node.inputs),
-        Some(more) => {
-            let before = elements(arena, node.inputs.as_slice(), node.inputs.separators())?;
-            ended(arena, before, variadic(arena, more)?, &more.comma)
-        }
+        Some(more) => before_dots(arena, node, more),
     }
 }

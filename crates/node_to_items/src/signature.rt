@@ -2,22 +2,34 @@
 
 ghost use Rattle.node_to_items.specs.Signatures.{behind_name, parameters};
 ghost use Rattle.node_views.specs.Functions as views;
+ghost use Rattle.node_words.specs.Words as words;
 ghost use Rattle.std.specs.Prelude.{◌≡◌, IfOk};
+ghost use Rattle.syn_grammar.specs.Name as n;
+ghost use Rattle.syn_grammar.specs.Tree as t;
 
 use crate::data::{generics_of, named};
 use crate::parameter::inputs;
 use node_items::function::{Safety, Signature};
 use node_to::leaf::optional;
-use node_to::row::{self, enclosed};
-use node_to::step::absent;
+use node_to::step::{self, absent, called, enclosed, first, five, four, three};
 use node_to::to_tree::ToTree;
 use node_to_types::conditions::where_of;
 use reader_table::kind::{Kind, Place};
 use reader_table::part::Part;
 use reader_tree::arena::Arena;
-use reader_tree::made;
 use reader_tree::tree::Tree;
 use std::alloc::AllocError;
+use syn_kinds::keyword::Keyword;
+
+// `unsafe` or `safe`.
+fn declared<'a, const K: usize>(
+    arena: &'a Arena,
+    token: &'a Keyword<K>,
+) -> Result<Tree<'a>, AllocError>
+    ensures { IfOk result (λ x. x ≡ t.First (t.Called n.the_safety (words.keyword token.now))) }
+{
+    first(arena, called(arena, Part::Safety, token.to_tree(arena)))
+}
 
 /// Whether it is declared unsafe, or safe.
 ///
@@ -28,14 +40,8 @@ pub fn safety<'a>(arena: &'a Arena, node: &'a Safety) -> Result<Tree<'a>, AllocE
     ensures { IfOk result (λ x. x ≡ views.safety node.now) }
 {
     match node {
-        Safety::Unsafe(token) => {
-            let named = made::called(arena, Part::Safety, token.to_tree(arena)?)?;
-            made::first(arena, named)
-        }
-        Safety::Safe(token) => {
-            let named = made::called(arena, Part::Safety, token.to_tree(arena)?)?;
-            made::first(arena, named)
-        }
+        Safety::Unsafe(token) => declared(arena, token),
+        Safety::Safe(token) => declared(arena, token),
         Safety::Default => absent(arena),
     }
 }
@@ -47,8 +53,8 @@ fn parameters<'a, E: ToTree>(
 ) -> Result<Tree<'a>, AllocError>
     ensures { IfOk result (λ x. x ≡ parameters E.tree node.now) }
 {
-    let group = enclosed(arena, &node.paren_token, inputs(arena, node)?)?;
-    made::node(arena, Kind::Parameters, made::first(arena, group)?)
+    let group = enclosed(arena, &node.paren_token, inputs(arena, node));
+    step::node(arena, Kind::Parameters, first(arena, group))
 }
 
 // The parameters in parentheses, the type of the result, and the conditions.
@@ -58,11 +64,11 @@ fn behind_name<'a, E: ToTree>(
 ) -> Result<Tree<'a>, AllocError>
     ensures { IfOk result (λ x. x ≡ behind_name E.tree node.now) }
 {
-    row::three(
+    three(
         arena,
-        parameters(arena, node)?,
-        node.output.to_tree(arena)?,
-        where_of(arena, &node.generics)?,
+        parameters(arena, node),
+        node.output.to_tree(arena),
+        where_of(arena, &node.generics),
     )
 }
 
@@ -77,20 +83,20 @@ pub fn signature<'a, E: ToTree>(
 ) -> Result<Tree<'a>, AllocError>
     ensures { IfOk result (λ x. x ≡ views.signature E.tree node.now) }
 {
-    let declared = row::four(
+    let declared = four(
         arena,
-        node.fn_token.to_tree(arena)?,
-        named(arena, &node.ident)?,
-        generics_of(arena, &node.generics)?,
-        behind_name(arena, node)?,
-    )?;
-    let parts = row::five(
+        node.fn_token.to_tree(arena),
+        named(arena, &node.ident),
+        generics_of(arena, &node.generics),
+        behind_name(arena, node),
+    );
+    let parts = five(
         arena,
-        optional(arena, &node.constness)?,
-        optional(arena, &node.asyncness)?,
-        safety(arena, &node.safety)?,
-        optional(arena, &node.abi)?,
+        optional(arena, &node.constness),
+        optional(arena, &node.asyncness),
+        safety(arena, &node.safety),
+        optional(arena, &node.abi),
         declared,
-    )?;
-    made::node(arena, Kind::Signature(Place::InFile), parts)
+    );
+    step::node(arena, Kind::Signature(Place::InFile), parts)
 }

@@ -3,14 +3,14 @@
 ghost use Rattle.node_views.specs.Items as views;
 ghost use Rattle.node_words.specs.Words as words;
 ghost use Rattle.std.specs.Prelude.{◌≡◌, IfOk};
+ghost use Rattle.syn_grammar.specs.Tree.{Tree as GivenTree};
 
 use crate::data::named;
 use crate::fields::value;
 use crate::item::item_of;
 use node_items::value::{ItemConst, ItemStatic, StaticMutability};
 use node_to::leaf::{name_or, sign};
-use node_to::row;
-use node_to::step::absent;
+use node_to::step::{self, absent, alternative, called, first, four, pair, three};
 use node_to::to_tree::ToTree;
 use node_to_types::conditions::no_where;
 use node_to_types::generics::no_generics;
@@ -20,7 +20,6 @@ use reader_table::kind::Kind;
 use reader_table::part::Part;
 use reader_table::word::{Keyword, Sign};
 use reader_tree::arena::Arena;
-use reader_tree::made;
 use reader_tree::tree::Tree;
 use rust_leaf::ident::Ident;
 use std::alloc::AllocError;
@@ -32,9 +31,9 @@ pub struct Typed<'t, 'a> {
     /// The `:`.
     pub colon_token: &'t token::Colon,
     /// The type.
-    pub ty: Tree<'a>,
+    pub ty: Result<Tree<'a>, AllocError>,
     /// `=` and the value, or nothing.
-    pub value: Tree<'a>,
+    pub value: Result<Tree<'a>, AllocError>,
     /// The `;`.
     pub semi_token: &'t token::Semi,
 }
@@ -51,8 +50,9 @@ pub fn const_form<'t, 'a>(
     ident: &'a Ident,
     typed: Typed<'t, 'a>,
 ) -> Result<Tree<'a>, AllocError>
-    ensures { IfOk result (λ x. x ≡ views.const_form word.now ident.now (words.mark typed.entry.colon_token.now)
-        typed.entry.ty typed.entry.value (words.mark typed.entry.semi_token.now)) }
+    ensures { (x y : GivenTree) → IfOk typed.entry.ty (λ r. r ≡ x) → IfOk typed.entry.value (λ r. r ≡ y)
+        → IfOk result (λ r. r ≡ views.const_form word.now ident.now (words.mark typed.entry.colon_token.now) x y
+        (words.mark typed.entry.semi_token.now)) }
 {
     let Typed {
         colon_token,
@@ -60,19 +60,19 @@ pub fn const_form<'t, 'a>(
         value,
         semi_token,
     } = typed;
-    let semi = sign(Sign::Semi, semi_token)?;
-    let ended = row::three(arena, value, no_where(arena)?, semi)?;
-    let ty = made::called(arena, Part::Type, ty)?;
-    let said = row::three(arena, sign(Sign::Colon, colon_token)?, ty, ended)?;
-    let name = name_or(arena, Keyword::Underscore, ident)?;
-    let parts = row::four(
+    let semi = sign(Sign::Semi, semi_token);
+    let ended = three(arena, value, no_where(arena), semi);
+    let ty = called(arena, Part::Type, ty);
+    let said = three(arena, sign(Sign::Colon, colon_token), ty, ended);
+    let name = name_or(arena, Keyword::Underscore, ident);
+    let parts = four(
         arena,
-        word.to_tree(arena)?,
-        made::called(arena, Part::Name, name)?,
-        no_generics(arena)?,
+        word.to_tree(arena),
+        called(arena, Part::Name, name),
+        no_generics(arena),
         said,
-    )?;
-    made::node(arena, Kind::AConst, parts)
+    );
+    step::node(arena, Kind::AConst, parts)
 }
 
 /// A constant.
@@ -86,18 +86,16 @@ pub fn item_const<'a, E: ToTree>(
 ) -> Result<Tree<'a>, AllocError>
     ensures { IfOk result (λ x. x ≡ views.item_const E.tree node.now) }
 {
-    let ty = type_(arena, &node.ty)?;
-    let value = value(arena, &node.eq_token, node.expr.to_tree(arena)?)?;
-    let value = made::first(arena, value)?;
+    let value = value(arena, &node.eq_token, node.expr.to_tree(arena));
     let typed = Typed {
         colon_token: &node.colon_token,
-        ty,
-        value,
+        ty: type_(arena, &node.ty),
+        value: first(arena, value),
         semi_token: &node.semi_token,
     };
-    let form = const_form(arena, &node.const_token, &node.ident, typed)?;
-    let item = made::first_behind(arena, 7, form)?;
-    item_of(arena, &node.attrs, visibility(arena, &node.vis)?, item)
+    let form = const_form(arena, &node.const_token, &node.ident, typed);
+    let item = alternative(arena, 7, form);
+    item_of(arena, &node.attrs, visibility(arena, &node.vis), item)
 }
 
 // Whether a static may be written.
@@ -108,7 +106,7 @@ fn static_mutability<'a>(
     ensures { IfOk result (λ x. x ≡ views.static_mutability mutability.now) }
 {
     match mutability {
-        StaticMutability::Mut(word) => made::first(arena, word.to_tree(arena)?),
+        StaticMutability::Mut(word) => first(arena, word.to_tree(arena)),
         StaticMutability::None => absent(arena),
     }
 }
@@ -126,9 +124,9 @@ pub fn static_form<'t, 'a>(
     ident: &'a Ident,
     typed: Typed<'t, 'a>,
 ) -> Result<Tree<'a>, AllocError>
-    ensures { IfOk result (λ x. x ≡ views.static_form word.now mutability.now ident.now
-        (words.mark typed.entry.colon_token.now) typed.entry.ty typed.entry.value
-        (words.mark typed.entry.semi_token.now)) }
+    ensures { (x y : GivenTree) → IfOk typed.entry.ty (λ r. r ≡ x) → IfOk typed.entry.value (λ r. r ≡ y)
+        → IfOk result (λ r. r ≡ views.static_form word.now mutability.now ident.now
+        (words.mark typed.entry.colon_token.now) x y (words.mark typed.entry.semi_token.now)) }
 {
     let Typed {
         colon_token,
@@ -136,18 +134,18 @@ pub fn static_form<'t, 'a>(
         value,
         semi_token,
     } = typed;
-    let ty = made::called(arena, Part::Type, ty)?;
-    let said = made::pair(arena, sign(Sign::Colon, colon_token)?, ty)?;
-    let said = made::first(arena, said)?;
-    let ended = row::three(arena, said, value, sign(Sign::Semi, semi_token)?)?;
-    let parts = row::four(
+    let ty = called(arena, Part::Type, ty);
+    let both = pair(arena, sign(Sign::Colon, colon_token), ty);
+    let said = first(arena, both);
+    let ended = three(arena, said, value, sign(Sign::Semi, semi_token));
+    let parts = four(
         arena,
-        word.to_tree(arena)?,
-        static_mutability(arena, mutability)?,
-        named(arena, ident)?,
+        word.to_tree(arena),
+        static_mutability(arena, mutability),
+        named(arena, ident),
         ended,
-    )?;
-    made::node(arena, Kind::AStatic, parts)
+    );
+    step::node(arena, Kind::AStatic, parts)
 }
 
 /// A static.
@@ -161,17 +159,15 @@ pub fn item_static<'a, E: ToTree>(
 ) -> Result<Tree<'a>, AllocError>
     ensures { IfOk result (λ x. x ≡ views.item_static E.tree node.now) }
 {
-    let ty = type_(arena, &node.ty)?;
-    let value = value(arena, &node.eq_token, node.expr.to_tree(arena)?)?;
-    let value = made::first(arena, value)?;
+    let value = value(arena, &node.eq_token, node.expr.to_tree(arena));
     let typed = Typed {
         colon_token: &node.colon_token,
-        ty,
-        value,
+        ty: type_(arena, &node.ty),
+        value: first(arena, value),
         semi_token: &node.semi_token,
     };
     let (word, mutability) = (&node.static_token, &node.mutability);
-    let form = static_form(arena, word, mutability, &node.ident, typed)?;
-    let item = made::first_behind(arena, 4, form)?;
-    item_of(arena, &node.attrs, visibility(arena, &node.vis)?, item)
+    let form = static_form(arena, word, mutability, &node.ident, typed);
+    let item = alternative(arena, 4, form);
+    item_of(arena, &node.attrs, visibility(arena, &node.vis), item)
 }

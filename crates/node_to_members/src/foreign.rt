@@ -8,12 +8,11 @@ use crate::foreign_item::AsForeignItem;
 use node_items::module::ItemForeignMod;
 use node_to::attributes::inner_attributes;
 use node_to::list::turned;
-use node_to::row::{self, enclosed};
+use node_to::step::{self, enclosed, pair, three};
 use node_to::to_tree::ToTree;
 use node_to_items::item::{by_unsafety, item_of, private, unsafety};
 use reader_table::kind::Kind;
 use reader_tree::arena::Arena;
-use reader_tree::made;
 use reader_tree::tree::Tree;
 use std::alloc::AllocError;
 
@@ -24,9 +23,9 @@ fn foreign_items<'a, E: ToTree>(
 ) -> Result<Tree<'a>, AllocError>
     ensures { IfOk result (λ x. x ≡ foreign_items E.tree node.now) }
 {
-    let each = turned(arena, &AsForeignItem, &node.items)?;
-    let items = made::node(arena, Kind::ForeignItems, each)?;
-    let inside = made::pair(arena, inner_attributes(arena, &node.attrs)?, items)?;
+    let each = turned(arena, &AsForeignItem, &node.items);
+    let items = step::node(arena, Kind::ForeignItems, each);
+    let inside = pair(arena, inner_attributes(arena, &node.attrs), items);
     enclosed(arena, &node.brace_token, inside)
 }
 
@@ -41,13 +40,13 @@ pub fn item_foreign_mod<'a, E: ToTree>(
 ) -> Result<Tree<'a>, AllocError>
     ensures { IfOk result (λ x. x ≡ views.item_foreign_mod E.tree node.now) }
 {
-    let parts = row::three(
+    let parts = three(
         arena,
-        unsafety(arena, &node.unsafety)?,
-        node.abi.to_tree(arena)?,
-        foreign_items(arena, node)?,
-    )?;
-    let form = made::node(arena, Kind::AForeignModule, parts)?;
-    let item = by_unsafety(arena, &node.unsafety, 2, 8, form)?;
-    item_of(arena, &node.attrs, private(arena)?, item)
+        unsafety(arena, &node.unsafety),
+        node.abi.to_tree(arena),
+        foreign_items(arena, node),
+    );
+    let form = step::node(arena, Kind::AForeignModule, parts);
+    let item = by_unsafety(arena, &node.unsafety, 2, 8, form);
+    item_of(arena, &node.attrs, private(arena), item)
 }

@@ -2,6 +2,7 @@
 
 ghost use Rattle.node_views.specs.Members as views;
 ghost use Rattle.std.specs.Prelude.{◌≡◌, IfOk};
+ghost use Rattle.syn_grammar.specs.Tree.{Tree as GivenTree};
 
 use crate::function::function;
 use node_items::alias::WhereClausePlacement;
@@ -12,11 +13,10 @@ use node_paths::attribute::Attribute;
 use node_to::attributes::outer_attributes;
 use node_to::leaf::sign;
 use node_to::list::Way;
-use node_to::row;
-use node_to::step::absent;
+use node_to::step::{self, absent, alternative, called, first, pair, second, three};
 use node_to::to_tree::ToTree;
 use node_to::token::raw;
-use node_to_items::alias::{Defined, alias_form, has_where, no_bounds, type_end};
+use node_to_items::alias::{Defined, alias_form, no_bounds, type_end};
 use node_to_items::item::private;
 use node_to_items::mac::macro_form;
 use node_to_items::signature::{safety, signature};
@@ -36,18 +36,19 @@ use std::alloc::AllocError;
 fn foreign_item_of<'a, E: ToTree>(
     arena: &'a Arena,
     attributes: &'a [Attribute<E>],
-    visibility: Tree<'a>,
-    item: Tree<'a>,
+    visibility: Result<Tree<'a>, AllocError>,
+    item: Result<Tree<'a>, AllocError>,
 ) -> Result<Tree<'a>, AllocError>
-    ensures { IfOk result (λ x. x ≡ views.foreign_item_of E.tree attributes.now visibility.entry item.entry) }
+    ensures { (x y : GivenTree) → IfOk visibility.entry (λ r. r ≡ x) → IfOk item.entry (λ r. r ≡ y)
+        → IfOk result (λ r. r ≡ views.foreign_item_of E.tree attributes.now x y) }
 {
-    let parts = row::three(
+    let parts = three(
         arena,
-        outer_attributes(arena, attributes)?,
-        made::called(arena, Part::Visibility, visibility)?,
+        outer_attributes(arena, attributes),
+        called(arena, Part::Visibility, visibility),
         item,
-    )?;
-    made::node(arena, Kind::AForeignItem, made::first(arena, parts)?)
+    );
+    step::node(arena, Kind::AForeignItem, first(arena, parts))
 }
 
 /// A function of another language.
@@ -62,10 +63,10 @@ pub fn foreign_item_fn<'a, E: ToTree>(
 ) -> Result<Tree<'a>, AllocError>
     ensures { IfOk result (λ x. x ≡ views.foreign_item_fn E.tree node.now) }
 {
-    let ended = made::second(arena, sign(Sign::Semi, &node.semi_token)?)?;
-    let form = function(arena, Place::InForeign, signature(arena, &node.sig)?, ended)?;
-    let item = made::first_behind(arena, 0, made::called(arena, Part::Item, form)?)?;
-    foreign_item_of(arena, &node.attrs, visibility(arena, &node.vis)?, item)
+    let ended = second(arena, sign(Sign::Semi, &node.semi_token));
+    let form = function(arena, Place::InForeign, signature(arena, &node.sig), ended);
+    let item = alternative(arena, 0, called(arena, Part::Item, form));
+    foreign_item_of(arena, &node.attrs, visibility(arena, &node.vis), item)
 }
 
 /// A static of another language.
@@ -79,20 +80,17 @@ pub fn foreign_item_static<'a, E: ToTree>(
 ) -> Result<Tree<'a>, AllocError>
     ensures { IfOk result (λ x. x ≡ views.foreign_item_static E.tree node.now) }
 {
-    let ty = type_(arena, &node.ty)?;
-    let value = absent(arena)?;
     let typed = Typed {
         colon_token: &node.colon_token,
-        ty,
-        value,
+        ty: type_(arena, &node.ty),
+        value: absent(arena),
         semi_token: &node.semi_token,
     };
     let (word, mutability) = (&node.static_token, &node.mutability);
-    let form = static_form(arena, word, mutability, &node.ident, typed)?;
-    let named = made::called(arena, Part::Item, form)?;
-    let both = made::pair(arena, safety(arena, &node.safety)?, named)?;
-    let item = made::first_behind(arena, 1, both)?;
-    foreign_item_of(arena, &node.attrs, visibility(arena, &node.vis)?, item)
+    let form = static_form(arena, word, mutability, &node.ident, typed);
+    let named = called(arena, Part::Item, form);
+    let item = alternative(arena, 1, pair(arena, safety(arena, &node.safety), named));
+    foreign_item_of(arena, &node.attrs, visibility(arena, &node.vis), item)
 }
 
 /// A type of another language.
@@ -107,19 +105,24 @@ pub fn foreign_item_type<'a, E: ToTree>(
     ensures { IfOk result (λ x. x ≡ views.foreign_item_type E.tree node.now) }
 {
     let (word, generics) = (&node.type_token, &node.generics);
-    let conditions = where_of(arena, generics)?;
+    let conditions = where_of(arena, generics);
     let early = WhereClausePlacement::Early;
-    let none = absent(arena)?;
-    let end = type_end(arena, early, has_where(generics), conditions, none)?;
-    let bounds = no_bounds(arena)?;
+    let end = type_end(arena, early, generics, conditions, absent(arena));
     let defined = Defined {
-        bounds,
+        bounds: no_bounds(arena),
         end,
         semi_token: &node.semi_token,
     };
-    let form = alias_form(arena, Place::InForeign, word, &node.ident, generics, defined)?;
-    let item = made::first_behind(arena, 2, made::called(arena, Part::Item, form)?)?;
-    foreign_item_of(arena, &node.attrs, visibility(arena, &node.vis)?, item)
+    let form = alias_form(
+        arena,
+        Place::InForeign,
+        word,
+        &node.ident,
+        generics,
+        defined,
+    );
+    let item = alternative(arena, 2, called(arena, Part::Item, form));
+    foreign_item_of(arena, &node.attrs, visibility(arena, &node.vis), item)
 }
 
 /// A call of a macro among items of another language.
@@ -133,10 +136,10 @@ pub fn foreign_item_macro<'a, E: ToTree>(
 ) -> Result<Tree<'a>, AllocError>
     ensures { IfOk result (λ x. x ≡ views.foreign_item_macro E.tree node.now) }
 {
-    let name = made::nil();
-    let form = macro_form(arena, Place::InForeign, &node.mac, name, &node.semi_token)?;
-    let item = made::first_behind(arena, 3, made::called(arena, Part::Item, form)?)?;
-    foreign_item_of(arena, &node.attrs, private(arena)?, item)
+    let (mac, semi_token) = (&node.mac, &node.semi_token);
+    let form = macro_form(arena, Place::InForeign, mac, Ok(made::nil()), semi_token);
+    let item = alternative(arena, 3, called(arena, Part::Item, form));
+    foreign_item_of(arena, &node.attrs, private(arena), item)
 }
 
 /// An item of another language.
@@ -156,7 +159,7 @@ pub fn foreign_item<'a, E: ToTree>(
         ForeignItem::Type(inner) => foreign_item_type(arena, inner),
         ForeignItem::Macro(inner) => foreign_item_macro(arena, inner),
         ForeignItem::Verbatim(tokens) => {
-            made::node(arena, Kind::AForeignItem, raw(arena, tokens)?)
+            step::node(arena, Kind::AForeignItem, raw(arena, tokens))
         }
     }
 }

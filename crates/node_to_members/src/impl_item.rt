@@ -4,14 +4,14 @@ ghost use Rattle.node_to_members.specs.Members.{impl_item_form};
 ghost use Rattle.node_views.specs.Members as views;
 ghost use Rattle.node_words.specs.Words as words;
 ghost use Rattle.std.specs.Prelude.{◌≡◌, IfOk};
+ghost use Rattle.syn_grammar.specs.Tree.{Tree as GivenTree};
 
 use crate::function::{fn_body, function};
 use node_items::implement::{ImplItem, ImplItemConst, ImplItemFn, ImplItemMacro, ImplItemType};
 use node_paths::attribute::Attribute;
 use node_to::attributes::outer_attributes;
 use node_to::list::Way;
-use node_to::row;
-use node_to::step::absent;
+use node_to::step::{self, absent, alternative, called, first, four, pair};
 use node_to::to_tree::ToTree;
 use node_to::token::raw;
 use node_to_items::alias::{Defined, alias_form, definition, no_bounds};
@@ -31,6 +31,13 @@ use reader_tree::tree::Tree;
 use std::alloc::AllocError;
 use syn_kinds::token;
 
+// `default`.
+fn by_default<'a>(arena: &'a Arena, token: &'a token::Default) -> Result<Tree<'a>, AllocError>
+    ensures { IfOk result (λ x. x ≡ views.default token.now) }
+{
+    called(arena, Part::Default, token.to_tree(arena))
+}
+
 /// `default`, if it is there.
 ///
 /// # Errors
@@ -44,10 +51,7 @@ pub fn defaultness<'a>(
 {
     match held {
         None => absent(arena),
-        Some(token) => {
-            let named = made::called(arena, Part::Default, token.to_tree(arena)?)?;
-            made::first(arena, named)
-        }
+        Some(token) => first(arena, by_default(arena, token)),
     }
 }
 
@@ -55,20 +59,21 @@ pub fn defaultness<'a>(
 fn impl_item_form<'a, E: ToTree>(
     arena: &'a Arena,
     attributes: &'a [Attribute<E>],
-    visibility: Tree<'a>,
-    default: Tree<'a>,
-    item: Tree<'a>,
+    visibility: Result<Tree<'a>, AllocError>,
+    default: Result<Tree<'a>, AllocError>,
+    item: Result<Tree<'a>, AllocError>,
 ) -> Result<Tree<'a>, AllocError>
-    ensures { IfOk result (λ x. x ≡ impl_item_form E.tree attributes.now visibility.entry default.entry item.entry) }
+    ensures { (x y z : GivenTree) → IfOk visibility.entry (λ r. r ≡ x) → IfOk default.entry (λ r. r ≡ y)
+        → IfOk item.entry (λ r. r ≡ z) → IfOk result (λ r. r ≡ impl_item_form E.tree attributes.now x y z) }
 {
-    let parts = row::four(
+    let parts = four(
         arena,
-        outer_attributes(arena, attributes)?,
-        made::called(arena, Part::Visibility, visibility)?,
+        outer_attributes(arena, attributes),
+        called(arena, Part::Visibility, visibility),
         default,
-        made::called(arena, Part::Item, item)?,
-    )?;
-    made::node(arena, Kind::AnImplItem, made::first(arena, parts)?)
+        called(arena, Part::Item, item),
+    );
+    step::node(arena, Kind::AnImplItem, first(arena, parts))
 }
 
 /// A constant of an impl.
@@ -82,19 +87,23 @@ pub fn impl_item_const<'a, E: ToTree>(
 ) -> Result<Tree<'a>, AllocError>
     ensures { IfOk result (λ x. x ≡ views.impl_item_const E.tree node.now) }
 {
-    let ty = type_(arena, &node.ty)?;
-    let value = value(arena, &node.eq_token, node.expr.to_tree(arena)?)?;
-    let value = made::first(arena, value)?;
+    let value = value(arena, &node.eq_token, node.expr.to_tree(arena));
     let typed = Typed {
         colon_token: &node.colon_token,
-        ty,
-        value,
+        ty: type_(arena, &node.ty),
+        value: first(arena, value),
         semi_token: &node.semi_token,
     };
-    let form = const_form(arena, &node.const_token, &node.ident, typed)?;
-    let item = made::first_behind(arena, 1, form)?;
-    let default = defaultness(arena, &node.modifiers.defaultness)?;
-    impl_item_form(arena, &node.attrs, visibility(arena, &node.vis)?, default, item)
+    let form = const_form(arena, &node.const_token, &node.ident, typed);
+    let item = alternative(arena, 1, form);
+    let default = defaultness(arena, &node.modifiers.defaultness);
+    impl_item_form(
+        arena,
+        &node.attrs,
+        visibility(arena, &node.vis),
+        default,
+        item,
+    )
 }
 
 /// A function of an impl.
@@ -108,11 +117,17 @@ pub fn impl_item_fn<'a, E: ToTree>(
 ) -> Result<Tree<'a>, AllocError>
     ensures { IfOk result (λ x. x ≡ views.impl_item_fn E.tree node.now) }
 {
-    let body = fn_body(arena, &node.attrs, &node.block)?;
-    let form = function(arena, Place::InImpl, signature(arena, &node.sig)?, body)?;
-    let item = made::first_behind(arena, 0, form)?;
-    let default = defaultness(arena, &node.modifiers.defaultness)?;
-    impl_item_form(arena, &node.attrs, visibility(arena, &node.vis)?, default, item)
+    let body = fn_body(arena, &node.attrs, &node.block);
+    let form = function(arena, Place::InImpl, signature(arena, &node.sig), body);
+    let item = alternative(arena, 0, form);
+    let default = defaultness(arena, &node.modifiers.defaultness);
+    impl_item_form(
+        arena,
+        &node.attrs,
+        visibility(arena, &node.vis),
+        default,
+        item,
+    )
 }
 
 /// A type of an impl.
@@ -127,18 +142,22 @@ pub fn impl_item_type<'a, E: ToTree>(
     ensures { IfOk result (λ x. x ≡ views.impl_item_type E.tree node.now) }
 {
     let (word, generics) = (&node.type_token, &node.generics);
-    let definition = definition(arena, &node.eq_token, type_(arena, &node.ty)?)?;
-    let end = made::pair(arena, definition, where_of(arena, generics)?)?;
-    let bounds = no_bounds(arena)?;
+    let definition = definition(arena, &node.eq_token, type_(arena, &node.ty));
     let defined = Defined {
-        bounds,
-        end,
+        bounds: no_bounds(arena),
+        end: pair(arena, definition, where_of(arena, generics)),
         semi_token: &node.semi_token,
     };
-    let form = alias_form(arena, Place::InImpl, word, &node.ident, generics, defined)?;
-    let item = made::first_behind(arena, 2, form)?;
-    let default = defaultness(arena, &node.modifiers.defaultness)?;
-    impl_item_form(arena, &node.attrs, visibility(arena, &node.vis)?, default, item)
+    let form = alias_form(arena, Place::InImpl, word, &node.ident, generics, defined);
+    let item = alternative(arena, 2, form);
+    let default = defaultness(arena, &node.modifiers.defaultness);
+    impl_item_form(
+        arena,
+        &node.attrs,
+        visibility(arena, &node.vis),
+        default,
+        item,
+    )
 }
 
 /// A call of a macro among the items of an impl.
@@ -152,10 +171,10 @@ pub fn impl_item_macro<'a, E: ToTree>(
 ) -> Result<Tree<'a>, AllocError>
     ensures { IfOk result (λ x. x ≡ views.impl_item_macro E.tree node.now) }
 {
-    let name = made::nil();
-    let form = macro_form(arena, Place::InImpl, &node.mac, name, &node.semi_token)?;
-    let item = made::seconds(arena, 3, form)?;
-    impl_item_form(arena, &node.attrs, private(arena)?, absent(arena)?, item)
+    let (mac, semi_token) = (&node.mac, &node.semi_token);
+    let form = macro_form(arena, Place::InImpl, mac, Ok(made::nil()), semi_token);
+    let item = alternative(arena, 3, form);
+    impl_item_form(arena, &node.attrs, private(arena), absent(arena), item)
 }
 
 /// An item of an impl.
@@ -174,7 +193,7 @@ pub fn impl_item<'a, E: ToTree>(
         ImplItem::Fn(inner) => impl_item_fn(arena, inner),
         ImplItem::Type(inner) => impl_item_type(arena, inner),
         ImplItem::Macro(inner) => impl_item_macro(arena, inner),
-        ImplItem::Verbatim(tokens) => made::node(arena, Kind::AnImplItem, raw(arena, tokens)?),
+        ImplItem::Verbatim(tokens) => step::node(arena, Kind::AnImplItem, raw(arena, tokens)),
     }
 }
 

@@ -4,6 +4,7 @@ ghost use Rattle.node_to_members.specs.Members.{alias_end, trait_end, trait_item
 ghost use Rattle.node_views.specs.Members as views;
 ghost use Rattle.node_words.specs.Words as words;
 ghost use Rattle.std.specs.Prelude.{◌≡◌, IfOk};
+ghost use Rattle.syn_grammar.specs.Tree.{Tree as GivenTree};
 
 use crate::trait_item::AsTraitItem;
 use node_generics::Generics;
@@ -12,8 +13,9 @@ use node_to::attributes::inner_attributes;
 use node_to::bounds::{bound_list, bounds_colon};
 use node_to::leaf::sign;
 use node_to::list::turned;
-use node_to::row::{self, enclosed};
-use node_to::step::absent;
+use node_to::step::{
+    self, absent, alternative, called, enclosed, first, four, pair, second, three,
+};
 use node_to::to_tree::ToTree;
 use node_to_items::data::{generics_of, named};
 use node_to_items::item::{by_unsafety, item_of, unsafety};
@@ -23,7 +25,6 @@ use reader_table::kind::Kind;
 use reader_table::part::Part;
 use reader_table::word::Sign;
 use reader_tree::arena::Arena;
-use reader_tree::made;
 use reader_tree::tree::Tree;
 use rust_leaf::ident::Ident;
 use std::alloc::AllocError;
@@ -32,8 +33,8 @@ use syn_kinds::token;
 // What stands in front of `trait`: `unsafe` and `auto`, each if it is there.
 #[derive(Drop)]
 struct Front<'a> {
-    unsafety: Tree<'a>,
-    auto: Tree<'a>,
+    unsafety: Result<Tree<'a>, AllocError>,
+    auto: Result<Tree<'a>, AllocError>,
 }
 
 // A trait, of its parts.
@@ -43,21 +44,29 @@ fn trait_form<'a, E: ToTree>(
     word: &'a token::Trait,
     ident: &'a Ident,
     generics: &'a Generics<E>,
-    behind: Tree<'a>,
+    behind: Result<Tree<'a>, AllocError>,
 ) -> Result<Tree<'a>, AllocError>
-    ensures { IfOk result (λ x. x ≡ views.trait_form E.tree front.entry.unsafety front.entry.auto word.now ident.now
-        generics.now behind.entry) }
+    ensures { (x y z : GivenTree) → IfOk front.entry.unsafety (λ r. r ≡ x) → IfOk front.entry.auto (λ r. r ≡ y)
+        → IfOk behind.entry (λ r. r ≡ z)
+        → IfOk result (λ r. r ≡ views.trait_form E.tree x y word.now ident.now generics.now z) }
 {
     let Front { unsafety, auto } = front;
-    let declared = row::four(
+    let declared = four(
         arena,
-        word.to_tree(arena)?,
-        named(arena, ident)?,
-        generics_of(arena, generics)?,
+        word.to_tree(arena),
+        named(arena, ident),
+        generics_of(arena, generics),
         behind,
-    )?;
-    let parts = row::three(arena, unsafety, auto, declared)?;
-    made::node(arena, Kind::ATrait, made::first(arena, parts)?)
+    );
+    let parts = three(arena, unsafety, auto, declared);
+    step::node(arena, Kind::ATrait, first(arena, parts))
+}
+
+// `auto`.
+fn by_auto<'a>(arena: &'a Arena, token: &'a token::Auto) -> Result<Tree<'a>, AllocError>
+    ensures { IfOk result (λ x. x ≡ views.auto token.now) }
+{
+    called(arena, Part::Auto, token.to_tree(arena))
 }
 
 // `auto`, if it is there.
@@ -66,10 +75,7 @@ fn auto<'a>(arena: &'a Arena, held: &'a Option<token::Auto>) -> Result<Tree<'a>,
 {
     match held {
         None => absent(arena),
-        Some(token) => {
-            let named = made::called(arena, Part::Auto, token.to_tree(arena)?)?;
-            made::first(arena, named)
-        }
+        Some(token) => first(arena, by_auto(arena, token)),
     }
 }
 
@@ -80,9 +86,9 @@ fn trait_items<'a, E: ToTree>(
 ) -> Result<Tree<'a>, AllocError>
     ensures { IfOk result (λ x. x ≡ trait_items E.tree node.now) }
 {
-    let each = turned(arena, &AsTraitItem, &node.items)?;
-    let items = made::node(arena, Kind::TraitItems, each)?;
-    let inside = made::pair(arena, inner_attributes(arena, &node.attrs)?, items)?;
+    let each = turned(arena, &AsTraitItem, &node.items);
+    let items = step::node(arena, Kind::TraitItems, each);
+    let inside = pair(arena, inner_attributes(arena, &node.attrs), items);
     enclosed(arena, &node.brace_token, inside)
 }
 
@@ -93,13 +99,13 @@ fn trait_end<'a, E: ToTree>(
 ) -> Result<Tree<'a>, AllocError>
     ensures { IfOk result (λ x. x ≡ trait_end E.tree node.now) }
 {
-    let parts = row::three(
+    let parts = three(
         arena,
-        bounds_colon(arena, &node.colon_token, &node.supertraits)?,
-        where_of(arena, &node.generics)?,
-        trait_items(arena, node)?,
-    )?;
-    made::second(arena, parts)
+        bounds_colon(arena, &node.colon_token, &node.supertraits),
+        where_of(arena, &node.generics),
+        trait_items(arena, node),
+    );
+    second(arena, parts)
 }
 
 /// A trait.
@@ -113,14 +119,15 @@ pub fn item_trait<'a, E: ToTree>(
 ) -> Result<Tree<'a>, AllocError>
     ensures { IfOk result (λ x. x ≡ views.item_trait E.tree node.now) }
 {
-    let unsafety = unsafety(arena, &node.unsafety)?;
-    let auto = auto(arena, &node.modifiers.auto_token)?;
-    let front = Front { unsafety, auto };
-    let behind = trait_end(arena, node)?;
+    let front = Front {
+        unsafety: unsafety(arena, &node.unsafety),
+        auto: auto(arena, &node.modifiers.auto_token),
+    };
+    let behind = trait_end(arena, node);
     let word = &node.trait_token;
-    let form = trait_form(arena, front, word, &node.ident, &node.generics, behind)?;
-    let item = by_unsafety(arena, &node.unsafety, 18, 11, form)?;
-    item_of(arena, &node.attrs, visibility(arena, &node.vis)?, item)
+    let form = trait_form(arena, front, word, &node.ident, &node.generics, behind);
+    let item = by_unsafety(arena, &node.unsafety, 18, 11, form);
+    item_of(arena, &node.attrs, visibility(arena, &node.vis), item)
 }
 
 // The bounds that get a name, and the conditions.
@@ -131,15 +138,15 @@ fn alias_end<'a, E: ToTree>(
 ) -> Result<Tree<'a>, AllocError>
     ensures { IfOk result (λ x. x ≡ alias_end E.tree node.now) }
 {
-    let mark = sign(Sign::Eq, &node.eq_token)?;
-    let parts = row::four(
+    let mark = sign(Sign::Eq, &node.eq_token);
+    let parts = four(
         arena,
-        made::called(arena, Part::Equals, mark)?,
-        bound_list(arena, &node.bounds)?,
-        where_of(arena, &node.generics)?,
-        sign(Sign::Semi, &node.semi_token)?,
-    )?;
-    made::first(arena, parts)
+        called(arena, Part::Equals, mark),
+        bound_list(arena, &node.bounds),
+        where_of(arena, &node.generics),
+        sign(Sign::Semi, &node.semi_token),
+    );
+    first(arena, parts)
 }
 
 /// Bounds with a name.
@@ -153,11 +160,13 @@ pub fn item_trait_alias<'a, E: ToTree>(
 ) -> Result<Tree<'a>, AllocError>
     ensures { IfOk result (λ x. x ≡ views.item_trait_alias E.tree node.now) }
 {
-    let (unsafety, auto) = (absent(arena)?, absent(arena)?);
-    let front = Front { unsafety, auto };
-    let behind = alias_end(arena, node)?;
+    let front = Front {
+        unsafety: absent(arena),
+        auto: absent(arena),
+    };
+    let behind = alias_end(arena, node);
     let word = &node.trait_token;
-    let form = trait_form(arena, front, word, &node.ident, &node.generics, behind)?;
-    let item = made::first_behind(arena, 18, form)?;
-    item_of(arena, &node.attrs, visibility(arena, &node.vis)?, item)
+    let form = trait_form(arena, front, word, &node.ident, &node.generics, behind);
+    let item = alternative(arena, 18, form);
+    item_of(arena, &node.attrs, visibility(arena, &node.vis), item)
 }

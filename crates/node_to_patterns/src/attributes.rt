@@ -2,6 +2,7 @@
 
 ghost use Rattle.node_views.specs.Patterns.{behind_attributes, behind_turns};
 ghost use Rattle.std.specs.Prelude.{◌≡◌, IfOk};
+ghost use Rattle.syn_grammar.specs.Tree.{Tree as GivenTree};
 
 use node_paths::attribute::Attribute;
 use node_to::attributes::outer;
@@ -35,10 +36,11 @@ fn behind<'a>(arena: &'a Arena, turns: Tree<'a>, pattern: Tree<'a>) -> Result<Tr
 pub fn behind_attributes<'a, E: ToTree>(
     arena: &'a Arena,
     attributes: &'a [Attribute<E>],
-    pattern: Tree<'a>,
+    pattern: Result<Tree<'a>, AllocError>,
 ) -> Result<Tree<'a>, AllocError>
-    ensures { IfOk result (λ x. x ≡ behind_attributes E.tree attributes.now pattern.entry) }
+    ensures { (x : GivenTree) → IfOk pattern.entry (λ r. r ≡ x)
+        → IfOk result (λ r. r ≡ behind_attributes E.tree attributes.now x) }
 {
     let turns = made::turns(arena, outer(arena, attributes)?)?;
-    behind(arena, turns, pattern)
+    behind(arena, turns, pattern?)
 }

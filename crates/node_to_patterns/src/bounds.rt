@@ -9,10 +9,10 @@ ghost use Rattle.syn_grammar.specs.Tree.{Tree as GivenTree};
 
 use crate::seconds::seconds_inside;
 use node_to::sight::{first_inside, is_absent, node_inside, pair_inside};
+use node_to::step::{self, first, second};
 use node_to::to_tree::ToTree;
 use reader_table::kind::Kind;
 use reader_tree::arena::Arena;
-use reader_tree::made;
 use reader_tree::tree::Tree;
 use std::alloc::AllocError;
 
@@ -54,14 +54,14 @@ fn path_inside<'a>(tree: &Tree<'a>) -> Option<Tree<'a>>
 fn literal_bound<'a>(arena: &'a Arena, literal: Tree<'a>) -> Result<Tree<'a>, AllocError>
     ensures { IfOk result (λ x. x ≡ t.Node k.RangeBound (t.First literal.entry)) }
 {
-    made::node(arena, Kind::RangeBound, made::first(arena, literal)?)
+    step::node(arena, Kind::RangeBound, first(arena, Ok(literal)))
 }
 
 // A path as a bound.
 fn path_bound<'a>(arena: &'a Arena, path: Tree<'a>) -> Result<Tree<'a>, AllocError>
     ensures { IfOk result (λ x. x ≡ t.Node k.RangeBound (t.Second path.entry)) }
 {
-    made::node(arena, Kind::RangeBound, made::second(arena, path)?)
+    step::node(arena, Kind::RangeBound, second(arena, Ok(path)))
 }
 
 // The bound of a range that is no literal: a path, and another pattern as it is.

@@ -1,8 +1,11 @@
 //! Each kind of pattern as a tree.
 
+ghost use Rattle.node_views.specs.Paths.{lit_token};
 ghost use Rattle.node_views.specs.Patterns as views;
 ghost use Rattle.node_words.specs.Words as words;
 ghost use Rattle.std.specs.Prelude.{◌≡◌, IfOk};
+ghost use Rattle.syn_grammar.specs.Tree as t;
+ghost use Rattle.syn_grammar.specs.Tree.{Tree as GivenTree};
 
 use crate::attributes::behind_attributes;
 use crate::several::{AsSeveral, several_of};
@@ -12,8 +15,9 @@ use node_patterns::kinds::{
 };
 use node_to::leaf::{optional, sign};
 use node_to::list::listed;
-use node_to::row::{self, enclosed};
-use node_to::step::absent;
+use node_to::step::{
+    self, absent, alternative, enclosed, first, four, last, lone, pair, second, three,
+};
 use node_to::to_tree::ToTree;
 use node_to::token::literal_of;
 use node_to_types::qualified::any_path;
@@ -21,7 +25,6 @@ use reader_table::kind::Kind;
 use reader_table::op::Separator;
 use reader_table::word::Sign;
 use reader_tree::arena::Arena;
-use reader_tree::made;
 use reader_tree::tree::Tree;
 use std::alloc::AllocError;
 use syn_kinds::token;
@@ -36,19 +39,29 @@ use syn_lists::Punctuated;
 pub fn one_pattern<'a>(
     arena: &'a Arena,
     number: usize,
-    inner: Tree<'a>,
+    inner: Result<Tree<'a>, AllocError>,
 ) -> Result<Tree<'a>, AllocError>
-    ensures { IfOk result (λ x. x ≡ views.one_pattern (words.alternative number inner.entry)) }
+    ensures { (x : GivenTree) → IfOk inner.entry (λ r. r ≡ x)
+        → IfOk result (λ r. r ≡ views.one_pattern (words.alternative number x)) }
 {
-    made::node(
-        arena,
-        Kind::OnePattern,
-        made::first_behind(arena, number, inner)?,
-    )
+    let chosen = alternative(arena, number, inner);
+    step::node(arena, Kind::OnePattern, chosen)
+}
+
+// `@` and a pattern.
+#[tactic(auto, unfolding(syn_kinds::specs::Table::marks, syn_kinds::specs::Table::sign))]
+fn bound<'a, E: ToTree>(
+    arena: &'a Arena,
+    at_token: &token::At,
+    pattern: &'a Box<E>,
+) -> Result<Tree<'a>, AllocError>
+    ensures { IfOk result (λ x. x ≡ t.Pair (words.mark at_token.now) (E.tree pattern.now.value)) }
+{
+    let mark = sign(Sign::At, at_token);
+    pair(arena, mark, pattern.to_tree(arena))
 }
 
 // `@` and a pattern, if they are there.
-#[tactic(auto, unfolding(syn_kinds::specs::Table::marks, syn_kinds::specs::Table::sign))]
 fn subpattern<'a, E: ToTree>(
     arena: &'a Arena,
     node: &'a PatIdent<E>,
@@ -57,10 +70,7 @@ fn subpattern<'a, E: ToTree>(
 {
     match &node.subpat {
         None => absent(arena),
-        Some((at_token, pattern)) => {
-            let mark = sign(Sign::At, at_token)?;
-            made::first(arena, made::pair(arena, mark, pattern.to_tree(arena)?)?)
-        }
+        Some((at_token, pattern)) => first(arena, bound(arena, at_token, pattern)),
     }
 }
 
@@ -75,15 +85,15 @@ pub fn pat_ident<'a, E: ToTree>(
 ) -> Result<Tree<'a>, AllocError>
     ensures { IfOk result (λ x. x ≡ views.pat_ident E.tree node.now) }
 {
-    let parts = row::four(
+    let parts = four(
         arena,
-        optional(arena, &node.by_ref)?,
-        optional(arena, &node.mutability)?,
-        node.ident.to_tree(arena)?,
-        made::second(arena, subpattern(arena, node)?)?,
-    )?;
-    let inner = made::node(arena, Kind::IdentPattern, parts)?;
-    behind_attributes(arena, &node.attrs, one_pattern(arena, 0, inner)?)
+        optional(arena, &node.by_ref),
+        optional(arena, &node.mutability),
+        node.ident.to_tree(arena),
+        second(arena, subpattern(arena, node)),
+    );
+    let inner = step::node(arena, Kind::IdentPattern, parts);
+    behind_attributes(arena, &node.attrs, one_pattern(arena, 0, inner))
 }
 
 /// Anything.
@@ -97,9 +107,9 @@ pub fn pat_wild<'a, E: ToTree>(
 ) -> Result<Tree<'a>, AllocError>
     ensures { IfOk result (λ x. x ≡ views.pat_wild E.tree node.now) }
 {
-    let word = node.underscore_token.to_tree(arena)?;
-    let inner = made::node(arena, Kind::WildPattern, word)?;
-    behind_attributes(arena, &node.attrs, one_pattern(arena, 1, inner)?)
+    let word = node.underscore_token.to_tree(arena);
+    let inner = step::node(arena, Kind::WildPattern, word);
+    behind_attributes(arena, &node.attrs, one_pattern(arena, 1, inner))
 }
 
 /// `..`, without its attributes.
@@ -111,8 +121,8 @@ pub fn pat_wild<'a, E: ToTree>(
 pub fn rest_pattern<'a, E>(arena: &'a Arena, node: &PatRest<E>) -> Result<Tree<'a>, AllocError>
     ensures { IfOk result (λ x. x ≡ views.rest_pattern node.now) }
 {
-    let mark = sign(Sign::DotDot, &node.dot2_token)?;
-    made::node(arena, Kind::RestPattern, mark)
+    let mark = sign(Sign::DotDot, &node.dot2_token);
+    step::node(arena, Kind::RestPattern, mark)
 }
 
 /// All that is left.
@@ -126,15 +136,19 @@ pub fn pat_rest<'a, E: ToTree>(
 ) -> Result<Tree<'a>, AllocError>
     ensures { IfOk result (λ x. x ≡ views.pat_rest E.tree node.now) }
 {
-    let inner = rest_pattern(arena, node)?;
-    behind_attributes(arena, &node.attrs, one_pattern(arena, 3, inner)?)
+    let inner = rest_pattern(arena, node);
+    behind_attributes(arena, &node.attrs, one_pattern(arena, 3, inner))
 }
 
 // Patterns in parentheses.
-fn in_parentheses<'a>(arena: &'a Arena, group: Tree<'a>) -> Result<Tree<'a>, AllocError>
-    ensures { IfOk result (λ x. x ≡ views.in_parentheses group.entry) }
+fn in_parentheses<'a>(
+    arena: &'a Arena,
+    group: Result<Tree<'a>, AllocError>,
+) -> Result<Tree<'a>, AllocError>
+    ensures { (x : GivenTree) → IfOk group.entry (λ r. r ≡ x)
+        → IfOk result (λ r. r ≡ views.in_parentheses x) }
 {
-    let inner = made::node(arena, Kind::TuplePattern, group)?;
+    let inner = step::node(arena, Kind::TuplePattern, group);
     one_pattern(arena, 4, inner)
 }
 
@@ -149,9 +163,9 @@ pub fn pat_paren<'a, E: ToTree>(
 ) -> Result<Tree<'a>, AllocError>
     ensures { IfOk result (λ x. x ≡ views.pat_paren E.tree node.now) }
 {
-    let pattern = several_of(arena, &node.pat)?;
-    let group = enclosed(arena, &node.paren_token, row::lone(arena, pattern)?)?;
-    behind_attributes(arena, &node.attrs, in_parentheses(arena, group)?)
+    let inside = lone(arena, several_of(arena, &node.pat));
+    let group = enclosed(arena, &node.paren_token, inside);
+    behind_attributes(arena, &node.attrs, in_parentheses(arena, group))
 }
 
 /// Patterns with commas between them, each of which may have alternatives.
@@ -179,8 +193,8 @@ pub fn pat_tuple<'a, E: ToTree>(
 ) -> Result<Tree<'a>, AllocError>
     ensures { IfOk result (λ x. x ≡ views.pat_tuple E.tree node.now) }
 {
-    let group = enclosed(arena, &node.paren_token, patterns(arena, &node.elems)?)?;
-    behind_attributes(arena, &node.attrs, in_parentheses(arena, group)?)
+    let group = enclosed(arena, &node.paren_token, patterns(arena, &node.elems));
+    behind_attributes(arena, &node.attrs, in_parentheses(arena, group))
 }
 
 /// The elements of a slice.
@@ -194,9 +208,9 @@ pub fn pat_slice<'a, E: ToTree>(
 ) -> Result<Tree<'a>, AllocError>
     ensures { IfOk result (λ x. x ≡ views.pat_slice E.tree node.now) }
 {
-    let group = enclosed(arena, &node.bracket_token, patterns(arena, &node.elems)?)?;
-    let inner = made::node(arena, Kind::SlicePattern, group)?;
-    behind_attributes(arena, &node.attrs, one_pattern(arena, 5, inner)?)
+    let group = enclosed(arena, &node.bracket_token, patterns(arena, &node.elems));
+    let inner = step::node(arena, Kind::SlicePattern, group);
+    behind_attributes(arena, &node.attrs, one_pattern(arena, 5, inner))
 }
 
 /// What a reference refers to.
@@ -211,18 +225,30 @@ pub fn pat_reference<'a, E: ToTree>(
 ) -> Result<Tree<'a>, AllocError>
     ensures { IfOk result (λ x. x ≡ views.pat_reference E.tree node.now) }
 {
-    let parts = row::three(
+    let parts = three(
         arena,
-        sign(Sign::And, &node.and_token)?,
-        optional(arena, &node.mutability)?,
-        node.pat.to_tree(arena)?,
-    )?;
-    let inner = made::node(arena, Kind::ReferencePattern, parts)?;
-    behind_attributes(arena, &node.attrs, one_pattern(arena, 6, inner)?)
+        sign(Sign::And, &node.and_token),
+        optional(arena, &node.mutability),
+        node.pat.to_tree(arena),
+    );
+    let inner = step::node(arena, Kind::ReferencePattern, parts);
+    behind_attributes(arena, &node.attrs, one_pattern(arena, 6, inner))
+}
+
+// `-`, and a number.
+#[tactic(auto, unfolding(syn_kinds::specs::Table::marks, syn_kinds::specs::Table::sign))]
+fn negative<'a>(
+    arena: &'a Arena,
+    minus_token: &token::Minus,
+    lit: &'a Lit,
+) -> Result<Tree<'a>, AllocError>
+    ensures { IfOk result (λ x. x ≡ t.Pair (words.mark minus_token.now) (lit_token lit.now)) }
+{
+    let mark = sign(Sign::Minus, minus_token);
+    pair(arena, mark, literal_of(arena, lit))
 }
 
 // A literal, or `-` and a number.
-#[tactic(auto, unfolding(syn_kinds::specs::Table::marks, syn_kinds::specs::Table::sign))]
 fn signed<'a>(
     arena: &'a Arena,
     minus_token: &Option<token::Minus>,
@@ -231,11 +257,8 @@ fn signed<'a>(
     ensures { IfOk result (λ x. x ≡ views.signed minus_token.now lit.now) }
 {
     match minus_token {
-        None => made::second(arena, lit.to_tree(arena)?),
-        Some(token) => {
-            let mark = sign(Sign::Minus, token)?;
-            made::first(arena, made::pair(arena, mark, literal_of(arena, lit)?)?)
-        }
+        None => second(arena, lit.to_tree(arena)),
+        Some(token) => first(arena, negative(arena, token, lit)),
     }
 }
 
@@ -246,13 +269,14 @@ fn signed<'a>(
 /// Where there is no memory for it.
 pub fn literal_pattern<'a>(
     arena: &'a Arena,
-    literal: Tree<'a>,
-    behind: Tree<'a>,
+    literal: Result<Tree<'a>, AllocError>,
+    behind: Result<Tree<'a>, AllocError>,
 ) -> Result<Tree<'a>, AllocError>
-    ensures { IfOk result (λ x. x ≡ views.literal_pattern literal.entry behind.entry) }
+    ensures { (x y : GivenTree) → IfOk literal.entry (λ r. r ≡ x) → IfOk behind.entry (λ r. r ≡ y)
+        → IfOk result (λ r. r ≡ views.literal_pattern x y) }
 {
-    let both = made::pair(arena, literal, behind)?;
-    one_pattern(arena, 7, made::node(arena, Kind::LiteralPattern, both)?)
+    let both = pair(arena, literal, behind);
+    one_pattern(arena, 7, step::node(arena, Kind::LiteralPattern, both))
 }
 
 /// A literal.
@@ -263,8 +287,8 @@ pub fn literal_pattern<'a>(
 pub fn pat_lit<'a, E: ToTree>(arena: &'a Arena, node: &'a PatLit<E>) -> Result<Tree<'a>, AllocError>
     ensures { IfOk result (λ x. x ≡ views.pat_lit E.tree node.now) }
 {
-    let literal = signed(arena, &node.minus_token, &node.lit)?;
-    let pattern = literal_pattern(arena, literal, absent(arena)?)?;
+    let literal = signed(arena, &node.minus_token, &node.lit);
+    let pattern = literal_pattern(arena, literal, absent(arena));
     behind_attributes(arena, &node.attrs, pattern)
 }
 
@@ -275,14 +299,15 @@ pub fn pat_lit<'a, E: ToTree>(arena: &'a Arena, node: &'a PatLit<E>) -> Result<T
 /// Where there is no memory for it.
 pub fn path_pattern<'a>(
     arena: &'a Arena,
-    path: Tree<'a>,
-    behind: Tree<'a>,
+    path: Result<Tree<'a>, AllocError>,
+    behind: Result<Tree<'a>, AllocError>,
 ) -> Result<Tree<'a>, AllocError>
-    ensures { IfOk result (λ x. x ≡ views.path_pattern path.entry behind.entry) }
+    ensures { (x y : GivenTree) → IfOk path.entry (λ r. r ≡ x) → IfOk behind.entry (λ r. r ≡ y)
+        → IfOk result (λ r. r ≡ views.path_pattern x y) }
 {
-    let both = made::pair(arena, path, behind)?;
-    let inner = made::node(arena, Kind::PathPattern, both)?;
-    made::node(arena, Kind::OnePattern, made::seconds(arena, 8, inner)?)
+    let both = pair(arena, path, behind);
+    let inner = step::node(arena, Kind::PathPattern, both);
+    step::node(arena, Kind::OnePattern, last(arena, 8, inner))
 }
 
 /// A path.
@@ -296,9 +321,9 @@ pub fn pat_path<'a, E: ToTree>(
 ) -> Result<Tree<'a>, AllocError>
     ensures { IfOk result (λ x. x ≡ views.pat_path E.tree node.now) }
 {
-    let path = any_path(arena, &node.qself, &node.path)?;
-    let behind = made::seconds(arena, 2, absent(arena)?)?;
-    behind_attributes(arena, &node.attrs, path_pattern(arena, path, behind)?)
+    let path = any_path(arena, &node.qself, &node.path);
+    let behind = last(arena, 2, absent(arena));
+    behind_attributes(arena, &node.attrs, path_pattern(arena, path, behind))
 }
 
 /// The fields of a struct without names.
@@ -312,8 +337,8 @@ pub fn pat_tuple_struct<'a, E: ToTree>(
 ) -> Result<Tree<'a>, AllocError>
     ensures { IfOk result (λ x. x ≡ views.pat_tuple_struct E.tree node.now) }
 {
-    let path = any_path(arena, &node.qself, &node.path)?;
-    let group = enclosed(arena, &node.paren_token, patterns(arena, &node.elems)?)?;
-    let behind = made::first_behind(arena, 0, group)?;
-    behind_attributes(arena, &node.attrs, path_pattern(arena, path, behind)?)
+    let path = any_path(arena, &node.qself, &node.path);
+    let group = enclosed(arena, &node.paren_token, patterns(arena, &node.elems));
+    let behind = alternative(arena, 0, group);
+    behind_attributes(arena, &node.attrs, path_pattern(arena, path, behind))
 }

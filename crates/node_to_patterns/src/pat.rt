@@ -14,12 +14,11 @@ use node_patterns::Pat;
 use node_patterns::kinds::PatType;
 use node_to::attributes::outer_attributes;
 use node_to::leaf::sign;
-use node_to::row;
+use node_to::step::{self, first, pair, three};
 use node_to::to_tree::ToTree;
 use reader_table::kind::Kind;
 use reader_table::word::Sign;
 use reader_tree::arena::Arena;
-use reader_tree::made;
 use reader_tree::tree::Tree;
 use std::alloc::AllocError;
 
@@ -35,18 +34,15 @@ pub fn pat_type<'a, E: ToTree>(
 ) -> Result<Tree<'a>, AllocError>
     ensures { IfOk result (λ x. x ≡ views.pat_type E.tree node.now) }
 {
-    let colon = sign(Sign::Colon, &node.colon_token)?;
-    let typed = made::first(arena, made::pair(arena, colon, node.ty.to_tree(arena)?)?)?;
-    made::node(
+    let colon = sign(Sign::Colon, &node.colon_token);
+    let ty = pair(arena, colon, node.ty.to_tree(arena));
+    let parts = three(
         arena,
-        Kind::ClosureParam,
-        row::three(
-            arena,
-            outer_attributes(arena, &node.attrs)?,
-            node.pat.to_tree(arena)?,
-            typed,
-        )?,
-    )
+        outer_attributes(arena, &node.attrs),
+        node.pat.to_tree(arena),
+        first(arena, ty),
+    );
+    step::node(arena, Kind::ClosureParam, parts)
 }
 
 /// A pattern.

@@ -3,7 +3,8 @@
 ghost use Rattle.node_to_patterns.specs.Starts.{IsChosen, IsStart};
 ghost use Rattle.node_views.specs.Patterns as views;
 ghost use Rattle.node_words.specs.Words as words;
-ghost use Rattle.std.specs.Prelude.{◌≡◌, IfOk};
+ghost use Rattle.std.specs.Prelude.{◌≡◌, IfOk, None};
+ghost use Rattle.syn_grammar.specs.Kind as k;
 ghost use Rattle.syn_grammar.specs.Tree as t;
 
 use crate::attributes::behind_attributes;
@@ -13,7 +14,7 @@ use crate::seconds::seconds_inside;
 use node_patterns::kinds::PatRange;
 use node_to::leaf::sign;
 use node_to::sight::{first_inside, node_inside};
-use node_to::step::absent;
+use node_to::step::{self, absent, first, last, pair, second};
 use node_to::to_tree::ToTree;
 use reader_table::kind::Kind;
 use reader_table::word::Sign;
@@ -21,6 +22,7 @@ use reader_tree::arena::Arena;
 use reader_tree::made;
 use reader_tree::tree::Tree;
 use std::alloc::AllocError;
+use syn_kinds::token;
 use syn_leaf::operators::RangeLimits;
 
 // The bound that an entry asks for, or nothing where the range lacks it.
@@ -42,26 +44,47 @@ fn optional<'a, E: ToTree>(
 {
     match bound {
         None => absent(arena),
-        Some(pattern) => made::first(arena, range_bound_of(arena, pattern)?),
+        Some(pattern) => first(arena, range_bound_of(arena, pattern)),
     }
 }
 
-// What stands behind the start of a range.
+// `..=` and an end.
 #[tactic(auto, unfolding(syn_kinds::specs::Table::marks, syn_kinds::specs::Table::sign))]
+fn closed_end<'a, E: ToTree>(
+    arena: &'a Arena,
+    token: &token::DotDotEq,
+    end: &'a Option<Box<E>>,
+) -> Result<Tree<'a>, AllocError>
+    ensures { IfOk result (λ x. x ≡ t.Node k.RangeEnd (t.First (t.Pair (words.mark token.now)
+        (words.given views.range_bound (views.held E.tree end.now))))) }
+{
+    let mark = sign(Sign::DotDotEq, token);
+    let both = pair(arena, mark, given(arena, end));
+    step::node(arena, Kind::RangeEnd, first(arena, both))
+}
+
+// `..`, and an end, if it is there.
+#[tactic(auto, unfolding(syn_kinds::specs::Table::marks, syn_kinds::specs::Table::sign))]
+fn open_end<'a, E: ToTree>(
+    arena: &'a Arena,
+    token: &token::DotDot,
+    end: &'a Option<Box<E>>,
+) -> Result<Tree<'a>, AllocError>
+    ensures { IfOk result (λ x. x ≡ t.Node k.RangeEnd (t.Second (t.Pair (words.mark token.now)
+        (words.optional views.range_bound (views.held E.tree end.now))))) }
+{
+    let mark = sign(Sign::DotDot, token);
+    let both = pair(arena, mark, optional(arena, end));
+    step::node(arena, Kind::RangeEnd, second(arena, both))
+}
+
+// What stands behind the start of a range.
 fn range_end<'a, E: ToTree>(arena: &'a Arena, node: &'a PatRange<E>) -> Result<Tree<'a>, AllocError>
     ensures { IfOk result (λ x. x ≡ views.range_end node.now.limits (views.held E.tree node.now.end)) }
 {
     match &node.limits {
-        RangeLimits::Closed(token) => {
-            let mark = sign(Sign::DotDotEq, token)?;
-            let both = made::pair(arena, mark, given(arena, &node.end)?)?;
-            made::node(arena, Kind::RangeEnd, made::first(arena, both)?)
-        }
-        RangeLimits::HalfOpen(token) => {
-            let mark = sign(Sign::DotDot, token)?;
-            let both = made::pair(arena, mark, optional(arena, &node.end)?)?;
-            made::node(arena, Kind::RangeEnd, made::second(arena, both)?)
-        }
+        RangeLimits::Closed(token) => closed_end(arena, token, &node.end),
+        RangeLimits::HalfOpen(token) => open_end(arena, token, &node.end),
     }
 }
 
@@ -71,8 +94,8 @@ fn range_mark<'a>(arena: &'a Arena, limits: &RangeLimits) -> Result<Tree<'a>, Al
     ensures { IfOk result (λ x. x ≡ views.range_mark limits.now) }
 {
     match limits {
-        RangeLimits::Closed(token) => made::first(arena, sign(Sign::DotDotEq, token)?),
-        RangeLimits::HalfOpen(token) => made::second(arena, sign(Sign::DotDot, token)?),
+        RangeLimits::Closed(token) => first(arena, sign(Sign::DotDotEq, token)),
+        RangeLimits::HalfOpen(token) => second(arena, sign(Sign::DotDot, token)),
     }
 }
 
@@ -118,24 +141,24 @@ fn from_literal<'a>(
 ) -> Result<Tree<'a>, AllocError>
     ensures { IfOk result (λ x. x ≡ views.literal_pattern literal.entry (t.First end.entry)) }
 {
-    let behind = made::first(arena, end)?;
-    literal_pattern(arena, literal, behind)
+    let behind = first(arena, Ok(end));
+    literal_pattern(arena, Ok(literal), behind)
 }
 
 // A range that begins with a path, and what stands behind that.
 fn from_path<'a>(arena: &'a Arena, path: Tree<'a>, end: Tree<'a>) -> Result<Tree<'a>, AllocError>
     ensures { IfOk result (λ x. x ≡ views.path_pattern path.entry (words.last 2 (t.First end.entry))) }
 {
-    let behind = made::seconds(arena, 2, made::first(arena, end)?)?;
-    path_pattern(arena, path, behind)
+    let behind = last(arena, 2, first(arena, Ok(end)));
+    path_pattern(arena, Ok(path), behind)
 }
 
 // A range that begins with another pattern, and what stands behind that.
 fn from_other<'a>(arena: &'a Arena, bound: Tree<'a>, end: Tree<'a>) -> Result<Tree<'a>, AllocError>
     ensures { IfOk result (λ x. x ≡ views.one_pattern (t.Pair bound.entry end.entry)) }
 {
-    let both = made::pair(arena, bound, end)?;
-    made::node(arena, Kind::OnePattern, both)
+    let both = pair(arena, Ok(bound), Ok(end));
+    step::node(arena, Kind::OnePattern, both)
 }
 
 // A range that begins with this bound, and what stands behind it.
@@ -163,6 +186,15 @@ fn started<'a, E: ToTree>(
     range_from(arena, bound, end)
 }
 
+// A range without a start.
+fn unstarted<'a, E: ToTree>(arena: &'a Arena, node: &'a PatRange<E>) -> Result<Tree<'a>, AllocError>
+    ensures { IfOk result (λ x. x ≡ views.range_form None node.now.limits (views.held E.tree node.now.end)) }
+{
+    let mark = range_mark(arena, &node.limits);
+    let both = pair(arena, mark, given(arena, &node.end));
+    one_pattern(arena, 2, step::node(arena, Kind::RangeToPattern, both))
+}
+
 // A range, without its attributes.
 fn range_form<'a, E: ToTree>(
     arena: &'a Arena,
@@ -172,11 +204,7 @@ fn range_form<'a, E: ToTree>(
         (views.held E.tree node.now.end)) }
 {
     match &node.start {
-        None => {
-            let mark = range_mark(arena, &node.limits)?;
-            let both = made::pair(arena, mark, given(arena, &node.end)?)?;
-            one_pattern(arena, 2, made::node(arena, Kind::RangeToPattern, both)?)
-        }
+        None => unstarted(arena, node),
         Some(start) => started(arena, start, node),
     }
 }
@@ -192,6 +220,5 @@ pub fn pat_range<'a, E: ToTree>(
 ) -> Result<Tree<'a>, AllocError>
     ensures { IfOk result (λ x. x ≡ views.pat_range E.tree node.now) }
 {
-    let form = range_form(arena, node)?;
-    behind_attributes(arena, &node.attrs, form)
+    behind_attributes(arena, &node.attrs, range_form(arena, node))
 }

@@ -8,7 +8,7 @@ use Rattle.syn_kinds.specs.declared.punctuation.Punctuation.{Punctuation}
 use Rattle.syn_lists.specs.Lists.{separators, values}
 use Rattle.node_paths.specs.declared.path.Path.{Path}
 use Rattle.node_paths.specs.declared.path.PathSegment.{PathSegment}
-use Rattle.node_to_types.specs.Words.{keyword_alone, kept_keyword}
+use Rattle.node_to_types.specs.Words.{keyword_alone}
 use Rattle.node_views.specs.Generics.{lone_word}
 use Rattle.node_views.specs.Paths.{is_keyword, path, segments}
 use Rattle.node_words.specs.Words.{◌▸◌, absent, mark, name, optional}

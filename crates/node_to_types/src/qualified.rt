@@ -1,6 +1,7 @@
 //! Qualified paths as trees, and paths that may be qualified.
 
 ghost use Rattle.node_views.specs.Paths as views;
+ghost use Rattle.node_words.specs.Words as words;
 ghost use Rattle.std.specs.Prelude.{◌≡◌, IfOk, drop, take};
 ghost use Rattle.syn_grammar.specs.Kind as k;
 ghost use Rattle.syn_grammar.specs.Tree as t;
@@ -84,14 +85,22 @@ fn mark_at<'a>(index: usize, separators: &[token::PathSep]) -> Result<Tree<'a>, 
     }
 }
 
+// The `::` in front of a path, if it is there.
+#[tactic(auto, unfolding(syn_kinds::specs::Table::marks, syn_kinds::specs::Table::sign))]
+fn leading<'a, E>(path: &Path<E>) -> Result<Tree<'a>, AllocError>
+    ensures { IfOk result (λ x. x ≡ words.given words.mark path.now.leading_colon) }
+{
+    given_sign(Sign::PathSep, &path.leading_colon)
+}
+
 // The `::` behind the `>`.
-#[tactic(auto, using(crate::proofs::Marks::behinds), unfolding(syn_kinds::specs::Table::marks, syn_kinds::specs::Table::sign))]
+#[tactic(auto, using(crate::proofs::Marks::behinds))]
 fn behind_trait<'a, E>(qself: &QSelf<E>, path: &Path<E>) -> Result<Tree<'a>, AllocError>
     ensures { IfOk result (λ x. x ≡ views.behind_trait qself.now.position path.now.leading_colon
         (separators path.now.segments)) }
 {
     if qself.position == 0 {
-        given_sign(Sign::PathSep, &path.leading_colon)
+        leading(path)
     } else {
         mark_at(qself.position - 1, path.segments.separators())
     }

@@ -1,3 +1,4 @@
+use Rattle.std.proofs.Common.{refl}
 use Rattle.node_to_patterns.proofs.Equals.{if_ok}
 use Rattle.node_to_blocks.proofs.Forms.{block_is, block_other}
 use Rattle.node_to_blocks.proofs.form.as_block.Goals as goal
@@ -9,4 +10,5 @@ returns-in-Some c =
     c.in_block.ensures
 
 pub returns-in-None : goal.returns-in-None
-returns-in-None c = if_ok c.whole.result _ _ (block_other c.args.form c.in-None.ensures) c.whole.ensures
+returns-in-None c =
+    if_ok c.expression.result _ _ (block_other c.args.form c.in-None.ensures) (c.expression.ensures _ refl)
