@@ -2,7 +2,7 @@
 use Rattle.std.specs.Prelude.{◌≡◌, true, false, Option, Some, None, refl}
 use Rattle.std.proofs.Common.{◌∙◌, ap, sym}
 use Rattle.std.proofs.lemmas.Bool.{false≢true}
-use Rattle.syn_grammar.specs.Gram.{called, ref}
+use Rattle.syn_grammar.specs.Gram.{Gram, called, ref}
 use Rattle.syn_grammar.specs.Items as items
 use Rattle.syn_grammar.specs.Kept.{held, kept}
 use Rattle.syn_grammar.specs.Kind as k
@@ -17,13 +17,14 @@ use Rattle.node_items.specs.declared.alias.WhereClausePlacement.{WhereClausePlac
 use Rattle.node_items.specs.declared.alias.WhereClausePlacement.TheVariants as placements
 use Rattle.node_types.specs.declared.«Type».{«Type» as Type'}
 use Rattle.syn_kinds.specs.declared.punctuation.Punctuation.{Punctuation}
+use Rattle.node_shapes.specs.Forms.{is_placed, stands_named}
 use Rattle.node_shapes.specs.Shape.{IsShaped}
 use Rattle.node_from_generics.specs.Generics.{conditions}
 use Rattle.node_views.specs.Items.{is_there, no_bounds, type_end}
 use Rattle.node_views.specs.Members.{type_value}
 use Rattle.node_words.specs.Words as words
 use Rattle.node_words.specs.Words.{absent}
-use Rattle.node_from_items.specs.Aliases.{either_end, end_of, has_placed, is_placed, plain_end, plain_end_of}
+use Rattle.node_from_items.specs.Aliases.{either_end, end_of, plain_end, plain_end_of}
 use Rattle.node_from_items.proofs.Found.{found_behind, found_called, found_here, found_mark, found_other, found_word}
 use Rattle.node_from_items.proofs.Found.{inside_shaped, kept_called}
 use Rattle.node_from_items.specs.Values.{inside}
@@ -190,11 +191,11 @@ alias_plainly_defined f d o w i g b v s sh e q =
     ∙ ap (λ r. is_some (found the_type (or_nil r))) (sym (the_value_of k.InImpl w i g b v s sh)) ∙ e
 
 -- where its conditions stand
-pub alias_placed : (j : k.Kind) (w i g b v s : Tree) (a : _)
+pub alias_placed : (p : k.Place) (w i g b v s : Tree) (a : Gram)
     → IsShaped v (called the_value a)
-    → has_placed (t.Node j (t.Pair w (t.Pair i (t.Pair g (t.Pair b (t.Pair v s)))))) ≡ true
+    → stands_named (k.ATypeAlias p) (t.Pair w (t.Pair i (t.Pair g (t.Pair b (t.Pair v s))))) ≡ true
     → is_placed (inside v) ≡ true
-alias_placed j w i g b (t.Called n x) s a h e = e
-alias_placed j w i g b _ s a h e = absurd h
+alias_placed p w i g b (t.Called n x) s a h e = e
+alias_placed p w i g b _ s a h e = absurd h
 
 pub ruleset aliases = (alias_unbounded)

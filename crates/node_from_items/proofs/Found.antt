@@ -42,16 +42,16 @@ found_maybe_word n _ test p h = absurd h
 
 -- what has another name, and what has that name
 
-pub found_other : (n m : Part) (x : Tree) (a : Gram) → same_part n m ≡ false → IsShaped x (called m a)
+pub found_other : (n m : Part) (x : Tree) (a : Gram) → same_part m n ≡ false → IsShaped x (called m a)
     → found n x ≡ None
 found_other n m (t.Called j x) a e h =
-    ap (λ i. cond (same_part n i) (Some x) None) h.0 ∙ ap (λ b. cond b (Some x) None) e
+    ap (λ i. cond (same_part i n) (Some x) None) h.0 ∙ ap (λ b. cond b (Some x) None) e
 found_other n m _ a e h = absurd h
 
 pub found_called : (n : Part) (x : Tree) (a : Gram) → same_part n n ≡ true → IsShaped x (called n a)
     → found n x ≡ Some (inside x)
 found_called n (t.Called j x) a e h =
-    ap (λ i. cond (same_part n i) (Some x) None) h.0 ∙ ap (λ b. cond b (Some x) None) e
+    ap (λ i. cond (same_part i n) (Some x) None) h.0 ∙ ap (λ b. cond b (Some x) None) e
 found_called n _ a e h = absurd h
 
 pub kept_called : (n : Part) (x : Tree) (a : Gram) → IsShaped x (called n a) → kept x ≡ t.Called n (kept (inside x))

@@ -17,7 +17,7 @@ use Rattle.node_from_items.proofs.Found.{found_behind, found_called, found_here,
 use Rattle.node_from_items.specs.Values.{inside}
 
 -- a part that may stand there, under that name or another
-pub maybe_other : (n m : Part) (x : Tree) (test : List Token → Bool) (a : Gram) → same_part n m ≡ false
+pub maybe_other : (n m : Part) (x : Tree) (test : List Token → Bool) (a : Gram) → same_part m n ≡ false
     → IsShaped x (alt test (called m a) nothing) → found n x ≡ None
 maybe_other n m (t.First q) test a e h = found_other n m q a e h
 maybe_other n m (t.Second t.Nil) test a e h = refl

@@ -53,7 +53,7 @@ file_form a v i f n j sh e s d =
 
 -- an item in a trait or an impl
 
-default_other : (p : k.Place) (n : Part) (d : Tree) → same_part n the_default ≡ false → IsShaped d (default_there p)
+default_other : (p : k.Place) (n : Part) (d : Tree) → same_part the_default n ≡ false → IsShaped d (default_there p)
     → found n d ≡ None
 default_other k.InTrait n d e h = maybe_other n the_default d _ _ e h
 default_other k.InImpl n d e h = maybe_other n the_default d _ _ e h

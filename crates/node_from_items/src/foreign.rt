@@ -3,8 +3,9 @@
 ghost use Rattle.node_from_items.specs.Dispatch.{foreign_parts};
 ghost use Rattle.node_from_items.specs.Functions.{body_or_semicolon};
 ghost use Rattle.node_from_items.specs.Members.{foreign_braces};
-ghost use Rattle.node_from_items.specs.Numbers.{by_unsafe, is_unsafe};
+ghost use Rattle.node_from_items.specs.Numbers.{by_unsafe};
 ghost use Rattle.node_from_items.specs.Values.{own};
+ghost use Rattle.node_shapes.specs.Forms.{is_unsafe};
 ghost use Rattle.node_shapes.specs.Shape.{IsShaped};
 ghost use Rattle.node_views.specs.Generics as generic_views;
 ghost use Rattle.node_views.specs.Items as items;

@@ -1,13 +1,14 @@
 use Rattle.std.specs.Prelude.{◌≡◌, false, true}
 use Rattle.std.proofs.Common.{◌∙◌, ap, subst, sym}
+use Rattle.syn_grammar.specs.Gram.{ref}
 use Rattle.syn_grammar.specs.Kept.{held, kept}
 use Rattle.syn_grammar.specs.Kind as k
 use Rattle.syn_grammar.specs.Table.{table}
 use Rattle.syn_grammar.specs.Tree as t
 use Rattle.syn_grammar.specs.Verdicts.{has_bounds, is_defined}
+use Rattle.node_shapes.specs.Forms.{is_placed, stands_named}
 use Rattle.node_shapes.specs.Shape.{IsShaped}
 use Rattle.node_views.specs.Items.{is_there}
-use Rattle.node_from_items.specs.Aliases.{has_placed, is_placed}
 use Rattle.node_from_items.specs.Values.{inside, own}
 use Rattle.node_from_items.proofs.AliasForms.{alias_defined, alias_placed, alias_unbounded}
 use Rattle.node_from_items.proofs.aliases.item_type.Goals as goal
@@ -16,8 +17,8 @@ pub either_defined-requires-clause-placed : goal.either_defined-requires-clause-
 unfolding table
 either_defined-requires-clause-placed g c =
     let h = subst (λ x. IsShaped x (table (k.ATypeAlias k.InFile))) c.six.ensures c.node-inner.ensures.shaped in
-    let e = subst (λ x. has_placed (t.Node (k.ATypeAlias k.InFile) x) ≡ true) c.six.ensures
-    (subst (λ x. has_placed x ≡ true) c.node-inner.ensures.node c.requires.placed) in
+    let e = subst (λ x. stands_named (k.ATypeAlias k.InFile) x ≡ true) c.six.ensures
+    (subst (λ x. IsShaped x (ref (k.ATypeAlias k.InFile))) c.node-inner.ensures.node c.requires.shaped).2 in
     subst (λ x. is_placed x ≡ true) (ap inside c.called.ensures.1) (alias_placed _ _ _ _ _ _ _ _ h.1.1.1.1.0 e)
 
 pub unreachable-requires : goal.unreachable-requires
