@@ -13,12 +13,12 @@ use Rattle.syn_grammar.specs.Tree as t
 use Rattle.syn_grammar.specs.Tree.{Tree}
 use Rattle.syn_grammar.specs.Verdicts.{const_is_raw, form_in, has_bounds, impl_is_raw, is_defined, is_public}
 use Rattle.syn_grammar.specs.Verdicts.{item_verdict, marked, raw_if, refused_if, root_inside}
-use Rattle.syn_grammar.specs.Lists.{default_there, item_form}
+use Rattle.syn_grammar.specs.Lists.{default_there}
 use Rattle.node_shapes.specs.Shape.{IsShaped}
 use Rattle.node_take.specs.Seqs.{among}
 use Rattle.node_views.specs.Items.{private}
 use Rattle.node_words.specs.Words.{absent}
-use Rattle.node_from_items.specs.Dispatch.{item_parts, member_form, member_parts}
+use Rattle.node_from_items.specs.Dispatch.{member_form, member_parts}
 use Rattle.node_from_items.specs.Values.{inside, own}
 use Rattle.node_from_items.proofs.Found.{found_behind, found_called, found_here, found_node, found_other, inside_shaped}
 use Rattle.node_from_items.proofs.Found.{kept_called}
@@ -33,23 +33,6 @@ chosen_node (suc m) (suc n) j y = chosen_node m n j y
 chosen_shaped : (m n : ℕ) (x : Tree) (j : k.Kind) → IsShaped x (ref j) → choice (among m n x) ≡ x
 chosen_shaped m n (t.Node i y) j h = chosen_node m n i y
 chosen_shaped m n _ j h = absurd h
-
--- an item in a file
-
-pub file_form : (a v i f : Tree) (n : ℕ) (j : k.Kind)
-    → IsShaped (t.Pair a (t.Pair v i)) item_parts → inside i ≡ among 22 n f → IsShaped f (ref j)
-    → item_verdict k.InFile (t.Pair a (t.Pair v i)) ≡ Keep
-    → form_in k.InFile (is_public (the the_visibility (t.Pair a (t.Pair v i)))) f ≡ Keep
-unfolding same_part
-file_form a v i f n j sh e s d =
-    let x = t.Pair a (t.Pair v i) in
-    let p : found the_item x ≡ Some (inside i) =
-    found_behind the_item a (t.Pair v i) (found_node the_item a _ sh.0)
-    ∙ found_behind the_item v i (found_other the_item the_visibility v _ refl sh.1.0)
-    ∙ found_called the_item i _ refl sh.1.1 in
-    sym (ap (λ o. form_in k.InFile (is_public (the the_visibility x)) (choice (or_nil o))) p
-    ∙ ap (λ y. form_in k.InFile (is_public (the the_visibility x)) (choice y)) e
-    ∙ ap (form_in k.InFile (is_public (the the_visibility x))) (chosen_shaped 22 n f j s)) ∙ d
 
 -- an item in a trait or an impl
 
@@ -308,24 +291,8 @@ member_arm p x a v d i y f q n m e h w c r u j z =
       (member_verdict p a v d i f m j sh o s (subst (λ b. item_verdict p b ≡ Keep) e w)),
     )
 
-pub file_arm : (x a v i y f : Tree) (q : Part) (n m : ℕ)
-    → x ≡ t.Pair a (t.Pair v i) → IsShaped x item_parts → item_verdict k.InFile x ≡ Keep
-    → i ≡ t.Called q y → y ≡ among 22 n f → n ≡ m
-    → (j : k.Kind) → (IsShaped (among 22 m f) item_form → IsShaped f (ref j))
-    → IsShaped f (ref j) × (form_in k.InFile (is_public (inside v)) f ≡ Keep)
-file_arm x a v i y f q n m e h w c r u j z =
-    let sh = subst (λ b. IsShaped b item_parts) e h in
-    let o : inside i ≡ among 22 m f = ap inside c ∙ r ∙ ap (λ l. among 22 l f) u in
-    let s = z (subst (λ b. IsShaped b item_form) o (inside_shaped the_item i _ sh.1.1)) in (
-      s,
-      subst (λ b. form_in k.InFile (is_public b) f ≡ Keep) (the_visibility_of a v i sh.0 sh.1.0)
-      (file_form a v i f m j sh o s (subst (λ b. item_verdict k.InFile b ≡ Keep) e w)),
-    )
-
 pub ruleset traits = (member_verdict, unmarked, not_raw)
 
 pub ruleset impls = (member_verdict, not_raw)
 
 pub ruleset foreigns = (not_raw, not_refused)
-
-pub ruleset items = (file_form, not_raw, not_refused)

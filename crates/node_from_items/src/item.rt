@@ -185,7 +185,6 @@ fn of_traits<E: Drop, R: ItemMaker<E>>(below: &R, traits: Traits<E>) -> Result<E
 }
 
 // An item that is kept, of what stands in front of it, and of the alternative that it is.
-#[tactic(auto, using(crate::proofs::FileForms::answers))]
 fn chosen_item<E: Drop, R: ItemMaker<E>>(
     below: &R,
     front: Front<E>,
