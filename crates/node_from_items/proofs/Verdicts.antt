@@ -125,22 +125,11 @@ unmarked p a v d i sh e =
 
 -- in front of a member of a trait stands neither pub nor default
 
-trait_unmarked : (b : Bool) (f : Tree) → form_in k.InTrait b f ≡ Keep → b ≡ false
+pub trait_unmarked : (b : Bool) (f : Tree) → form_in k.InTrait b f ≡ Keep → b ≡ false
 trait_unmarked true (t.Node k.AConst x) e = cc (e)
 trait_unmarked true (t.Node (k.ItemMacro p) x) e = cc (e)
 trait_unmarked true _ e = cc (e)
 trait_unmarked false f e = refl
-
-pub trait_front : (a v d i f : Tree) (n : ℕ) (j : k.Kind)
-    → IsShaped (t.Pair a (t.Pair v (t.Pair d i))) (member_parts k.InTrait) → inside i ≡ among 4 n f
-    → IsShaped f (ref j) → item_verdict k.InTrait (t.Pair a (t.Pair v (t.Pair d i))) ≡ Keep
-    → (kept v ≡ t.Called the_visibility private) × (kept d ≡ absent)
-unfolding same_part
-trait_front a v d i f n j sh e s q =
-    let x = t.Pair a (t.Pair v (t.Pair d i)) in
-    let u = unmarked k.InTrait a v d i sh
-    (trait_unmarked (marked k.InTrait x) f (member_verdict k.InTrait a v d i f n j sh e s q)) in
-    (u.0, none_there the_default d _ _ refl sh.1.1.0 (found_in the_default d i u.1))
 
 pub trait_constant : (b : Bool) (f : Tree) → IsShaped f (ref k.AConst) → form_in k.InTrait b f ≡ Keep
     → const_is_raw false (own f) ≡ false
@@ -290,9 +279,3 @@ member_arm p x a v d i y f q n m e h w c r u j z =
       subst (λ b. form_in p (marked p b) f ≡ Keep) (sym e)
       (member_verdict p a v d i f m j sh o s (subst (λ b. item_verdict p b ≡ Keep) e w)),
     )
-
-pub ruleset traits = (member_verdict, unmarked, not_raw)
-
-pub ruleset impls = (member_verdict, not_raw)
-
-pub ruleset foreigns = (not_raw, not_refused)

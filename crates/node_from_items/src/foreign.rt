@@ -160,7 +160,7 @@ pub fn foreign_item_macro<E: Drop, R: Reader<E>>(
 }
 
 // An item of an extern block that is kept.
-#[tactic(auto, using(crate::proofs::Verdicts::foreigns), unfolding(syn_grammar::specs::Table::table, syn_grammar::specs::Kept::held, syn_kinds::specs::Table::marks, syn_kinds::specs::Table::sign, syn_kinds::specs::Table::word))]
+#[tactic(auto, unfolding(syn_grammar::specs::Table::table, syn_grammar::specs::Kept::held, syn_kinds::specs::Table::marks, syn_kinds::specs::Table::sign, syn_kinds::specs::Table::word))]
 fn kept_foreign_item<E: Drop, R: Reader<E>>(
     below: &R,
     tree: &Tree<'_>,
