@@ -267,6 +267,7 @@ numbered_18 (t.Second (t.First x)) r d =
 numbered_18 (t.Second (t.Second (t.First x))) r d = plain 20 k.AMacroDefinition x r (λ y. refl) d.1.1.1
 numbered_18 (t.Second (t.Second (t.Second (t.First x)))) r d =
     plain 21 (k.ItemMacro k.InFile) x r (λ y. refl) d.1.1.1.1
+numbered_18 (t.Second (t.Second (t.Second (t.Second t.Nil)))) r d = absurd d.1.1.1.1
 numbered_18 (t.Second (t.Second (t.Second (t.Second _)))) r d = absurd d.1.1.1.1
 numbered_18 (t.Second (t.Second (t.Second _))) r d = absurd d.1.1.1
 numbered_18 (t.Second (t.Second _)) r d = absurd d.1.1
