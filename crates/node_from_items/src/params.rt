@@ -11,7 +11,7 @@ ghost use Rattle.node_words.specs.Words.{◌▸◌, alternative, last};
 ghost use Rattle.proc_macro2.specs.Token.{Token};
 ghost use Rattle.reader_tree.specs.Size.{node_count};
 ghost use Rattle.node_from_items.specs.declared.params.Param.TheVariants as params;
-ghost use Rattle.std.specs.Prelude.{◌≡◌, ◌≤◌, Bool, IfOk, List, None, Option, Some, not, true};
+ghost use Rattle.std.specs.Prelude.{◌≡◌, ◌≤◌, Bool, IfOk, List, None, Option, length, not, true};
 ghost use Rattle.syn_grammar.specs.Tree.{Tree as GivenTree};
 ghost use Rattle.syn_grammar.specs.Gram as g;
 ghost use Rattle.syn_grammar.specs.Items.{is_variadic};
@@ -137,10 +137,10 @@ fn dots<E>(
     })
 }
 
-// The same with a comma behind it.
-fn followed<E>(variadic: Variadic<E>, comma: token::Comma) -> Variadic<E>
+// The same with that comma behind it, or none.
+fn followed<E>(variadic: Variadic<E>, comma: Option<token::Comma>) -> Variadic<E>
     ensures view { (f : E → GivenTree) → views.variadic f result ≡ views.variadic f variadic }
-    ensures comma { result.comma ≡ Some comma }
+    ensures comma { result.comma ≡ comma }
 {
     let Variadic {
         attrs, pat, dots, ..
@@ -149,7 +149,7 @@ fn followed<E>(variadic: Variadic<E>, comma: token::Comma) -> Variadic<E>
         attrs,
         pat,
         dots,
-        comma: Some(comma),
+        comma,
     }
 }
 
@@ -256,12 +256,30 @@ pub fn any_param<E: Drop, R: Reader<E>>(below: &R, tree: &Tree<'_>) -> Result<Pa
     Ok(chosen_param(below, attrs, behind)?)
 }
 
+// Parameters with a comma behind each, and the last one without.
+fn put_last<E: Drop>(
+    mut list: Punctuated<FnArg<E>, token::Comma>,
+    made: Param<E>,
+) -> Result<(Punctuated<FnArg<E>, token::Comma>, Option<Variadic<E>>), AllocError>
+    requires { length list.values.items ≡ length list.separators.items }
+    ensures { IfOk result (λ p. (f : E → GivenTree) → views.inputs f p.0 p.1
+        ≡ words.all_listed 44 (views.fn_arg f) list.values.items (t.Final (param_view f made))) }
+{
+    match made {
+        Param::Arg(arg) => {
+            list.push_value(arg)?;
+            Ok((list, None))
+        }
+        Param::Dots(variadic) => Ok((list, Some(followed(variadic, None)))),
+    }
+}
+
 /// The parameters of a function, and what takes any number of arguments more, if it stands behind them.
 ///
 /// # Errors
 ///
 /// Where there is no memory for them.
-#[tactic(auto, using(crate::proofs::ParamLists::lists))]
+#[tactic(auto, using(node_take::proofs::Lists::steps, crate::proofs::ParamLists::lists))]
 pub fn params<E: Drop, R: Reader<E>>(
     below: &R,
     tree: &Tree<'_>,
@@ -282,14 +300,14 @@ pub fn params<E: Drop, R: Reader<E>>(
                 list.push_value(arg)?;
                 list.push_punct(comma)?;
             }
-            Param::Dots(variadic) => return Ok((list, Some(followed(variadic, comma)))),
+            Param::Dots(variadic) => return Ok((list, Some(followed(variadic, Some(comma))))),
         }
     }
-    if let Some(element) = last {
-        match any_param(below, element)? {
-            Param::Arg(arg) => list.push_value(arg)?,
-            Param::Dots(variadic) => return Ok((list, Some(variadic))),
+    match last {
+        Some(element) => {
+            let made = any_param(below, element)?;
+            put_last(list, made)
         }
+        None => Ok((list, None)),
     }
-    Ok((list, None))
 }
