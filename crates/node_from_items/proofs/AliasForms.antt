@@ -2,7 +2,7 @@
 use Rattle.std.specs.Prelude.{◌≡◌, true, false, Option, Some, None, refl}
 use Rattle.std.proofs.Common.{◌∙◌, ap, sym}
 use Rattle.std.proofs.lemmas.Bool.{false≢true}
-use Rattle.syn_grammar.specs.Gram.{Gram, called, ref}
+use Rattle.syn_grammar.specs.Gram.{Gram, called}
 use Rattle.syn_grammar.specs.Items as items
 use Rattle.syn_grammar.specs.Kept.{held, kept}
 use Rattle.syn_grammar.specs.Kind as k

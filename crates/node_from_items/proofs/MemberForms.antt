@@ -1,12 +1,12 @@
 -- Items of traits, impls and extern blocks that are kept: what was chosen, and what is kept of the whole.
-use Rattle.std.specs.Prelude.{◌≡◌, ◌||◌, ℕ, zero, suc, false, None, Option, Some, refl}
+use Rattle.std.specs.Prelude.{◌≡◌, ℕ, zero, suc, false, Some, refl}
 use Rattle.std.proofs.Common.{◌∙◌, ap, subst, sym}
 use Rattle.syn_grammar.specs.Gram.{Keep, called, ref}
 use Rattle.syn_grammar.specs.Items.{safety}
 use Rattle.syn_grammar.specs.Kept.{kept}
 use Rattle.syn_grammar.specs.Kind as k
 use Rattle.syn_grammar.specs.Name.{Part, same_part, the_default, the_item, the_safety, the_visibility}
-use Rattle.syn_grammar.specs.Part.{choice, found, has, or_else, or_nil, the}
+use Rattle.syn_grammar.specs.Part.{choice, found, or_nil, the}
 use Rattle.syn_grammar.specs.Tree as t
 use Rattle.syn_grammar.specs.Tree.{Tree}
 use Rattle.syn_grammar.specs.Verdicts.{form_in, form_in_foreign, is_public, item_verdict, marked}
@@ -14,7 +14,7 @@ use Rattle.node_shapes.specs.Shape.{IsShaped}
 use Rattle.node_take.specs.Seqs.{among}
 use Rattle.node_views.specs.Items.{private}
 use Rattle.node_words.specs.Words.{absent}
-use Rattle.node_from_items.proofs.Found.{found_behind, found_called, found_node, found_other, inside_shaped}
+use Rattle.node_from_items.proofs.Found.{found_behind, found_called, found_node, found_other}
 use Rattle.node_from_items.proofs.TraitForms.{found_in, maybe_other, none_there}
 use Rattle.node_from_items.proofs.Verdicts.{private_part, the_visibility_of, unmarked}
 use Rattle.node_from_items.specs.Dispatch.{foreign_form, foreign_parts, member_form, member_parts}

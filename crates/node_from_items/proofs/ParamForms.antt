@@ -1,6 +1,6 @@
 -- What a parameter is, and whether it is ... .
 use Rattle.std.specs.Prelude.{◌≡◌, ℕ, List, true, false, refl}
-use Rattle.std.proofs.Common.{◌∙◌, ap, sym}
+use Rattle.std.proofs.Common.{◌∙◌, ap}
 use Rattle.syn_grammar.specs.Alternatives.{a_pattern_and_type}
 use Rattle.syn_grammar.specs.Gram.{Gram, called, mark, ref}
 use Rattle.syn_grammar.specs.Items.{is_variadic}

@@ -17,12 +17,11 @@ use Rattle.syn_grammar.specs.Lists.{default_there}
 use Rattle.node_shapes.specs.Shape.{IsShaped}
 use Rattle.node_take.specs.Seqs.{among}
 use Rattle.node_views.specs.Items.{private}
-use Rattle.node_words.specs.Words.{absent}
 use Rattle.node_from_items.specs.Dispatch.{member_form, member_parts}
 use Rattle.node_from_items.specs.Values.{inside, own}
 use Rattle.node_from_items.proofs.Found.{found_behind, found_called, found_here, found_node, found_other, inside_shaped}
 use Rattle.node_from_items.proofs.Found.{in_kind, kept_called}
-use Rattle.node_from_items.proofs.TraitForms.{found_in, maybe_other, none_there}
+use Rattle.node_from_items.proofs.TraitForms.{maybe_other}
 
 -- what was chosen of alternatives, where it is a node
 pub chosen_node : (m n : ℕ) (j : k.Kind) (y : Tree) → choice (among m n (t.Node j y)) ≡ t.Node j y

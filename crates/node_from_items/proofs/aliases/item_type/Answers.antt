@@ -4,7 +4,6 @@ use Rattle.syn_grammar.specs.Gram.{ref}
 use Rattle.syn_grammar.specs.Kept.{held, kept}
 use Rattle.syn_grammar.specs.Kind as k
 use Rattle.syn_grammar.specs.Table.{table}
-use Rattle.syn_grammar.specs.Tree as t
 use Rattle.syn_grammar.specs.Verdicts.{has_bounds, is_defined}
 use Rattle.node_shapes.specs.Forms.{is_placed, stands_named}
 use Rattle.node_shapes.specs.Shape.{IsShaped}

@@ -1,16 +1,11 @@
 use Rattle.std.specs.Prelude.{refl}
-use Rattle.std.proofs.Common.{◌∙◌, ◌≡◌, ap, subst}
+use Rattle.std.proofs.Common.{ap, subst}
 use Rattle.syn_grammar.specs.Gram.{called}
-use Rattle.syn_grammar.specs.Kept.{kept}
 use Rattle.syn_grammar.specs.Kind as k
 use Rattle.syn_grammar.specs.Lists.{item_form}
 use Rattle.syn_grammar.specs.Name.{the_item}
 use Rattle.syn_grammar.specs.Tree as t
 use Rattle.node_shapes.specs.Shape.{IsShaped}
-use Rattle.node_take.specs.Seqs.{among}
-use Rattle.node_views.specs.Generics.{visibility}
-use Rattle.node_views.specs.Items.{item_of}
-use Rattle.node_views.specs.Paths.{outer_attributes}
 use Rattle.node_from_items.specs.Dispatch.{item_parts}
 use Rattle.node_from_items.proofs.FileForms.{item_fewer, item_kept, item_number, item_parted, item_shape, item_verdict_of}
 use Rattle.node_from_items.proofs.FileForms.{made_other}
@@ -26,28 +21,34 @@ alternative-which-requires g c = (
 
 pub chosen_item-requires-clause-shaped : goal.chosen_item-requires-clause-shaped
 chosen_item-requires-clause-shaped g c =
-    item_shape c.args.tree.now _ _ _ _ _ c.requires.shaped
-    (item_parted _ _ _ _ _ _ _ _ c.three.ensures c.called.ensures.1 c.alternative-which.ensures.chosen)
+    let w = c.alternative-which in
+    item_shape c.args.tree.now _ _ w.result.1.now _ w.result.0 c.requires.shaped
+    (item_parted _ _ _ _ _ w.result.1.now _ w.result.0 c.three.ensures c.called.ensures.1 w.ensures.chosen)
 
 pub chosen_item-requires-clause-numbered : goal.chosen_item-requires-clause-numbered
 chosen_item-requires-clause-numbered g c =
-    item_number c.args.tree.now _ _ _ _ _ c.requires.numbered
-    (item_parted _ _ _ _ _ _ _ _ c.three.ensures c.called.ensures.1 c.alternative-which.ensures.chosen)
+    let w = c.alternative-which in
+    item_number c.args.tree.now _ _ w.result.1.now _ w.result.0 c.requires.numbered
+    (item_parted _ _ _ _ _ w.result.1.now _ w.result.0 c.three.ensures c.called.ensures.1 w.ensures.chosen)
 
 pub chosen_item-requires-clause-verdict : goal.chosen_item-requires-clause-verdict
 chosen_item-requires-clause-verdict g c =
-    item_verdict_of c.args.tree.now _ _ _ _ _ _ c.requires.shaped
-    (item_parted _ _ _ _ _ _ _ _ c.three.ensures c.called.ensures.1 c.alternative-which.ensures.chosen)
+    let w = c.alternative-which in
+    item_verdict_of c.args.tree.now _ _ w.result.1.now _ _ w.result.0 c.requires.shaped
+    (item_parted _ _ _ _ _ w.result.1.now _ w.result.0 c.three.ensures c.called.ensures.1 w.ensures.chosen)
     c.requires.verdict c.in_ok-front.ensures.visibility
 
 pub chosen_item-requires-clause-fewer : goal.chosen_item-requires-clause-fewer
 chosen_item-requires-clause-fewer g c =
-    item_fewer c.args.tree.now _ _ _ _ _ _ c.requires.fewer
-    (item_parted _ _ _ _ _ _ _ _ c.three.ensures c.called.ensures.1 c.alternative-which.ensures.chosen)
+    let w = c.alternative-which in
+    item_fewer c.args.tree.now _ _ w.result.1.now _ w.result.0 _ c.requires.fewer
+    (item_parted _ _ _ _ _ w.result.1.now _ w.result.0 c.three.ensures c.called.ensures.1 w.ensures.chosen)
 
 pub returns : goal.returns
 returns g c =
+    let w = c.alternative-which in
     made_other c.chosen_item.result g.R.Reader.view _ _ c.chosen_item.ensures
-    (ap (λ y. t.Node k.AnItem (t.First y)) (item_kept c.args.tree.now _ _ _ _ _ _ _ c.requires.shaped
-    (item_parted _ _ _ _ _ _ _ _ c.three.ensures c.called.ensures.1 c.alternative-which.ensures.chosen)
+    (ap (λ y. t.Node k.AnItem (t.First y)) (item_kept c.args.tree.now _ _ w.result.1.now _ _ _ w.result.0
+    c.requires.shaped
+    (item_parted _ _ _ _ _ w.result.1.now _ w.result.0 c.three.ensures c.called.ensures.1 w.ensures.chosen)
     c.in_ok-front.ensures.attributes c.in_ok-front.ensures.visibility))
