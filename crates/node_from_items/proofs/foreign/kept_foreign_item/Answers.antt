@@ -12,14 +12,16 @@ use Rattle.node_from_items.proofs.foreign.kept_foreign_item.Goals as goal
 
 pub foreign_item_fn-requires-clause-shaped : goal.foreign_item_fn-requires-clause-shaped
 foreign_item_fn-requires-clause-shaped g c =
-    let r = foreign_called _ c.alternative-which.result.1.now _ _ c.alternative-which.result.0 0 (k.AFunction k.InForeign)
+    let r = foreign_called _ c.alternative-which.result.1.now _ _ c.alternative-which.result.0 0
+    (k.AFunction k.InForeign)
     (subst (λ b. IsShaped b foreign_parts) c.three.ensures c.requires.shaped).1.1
     c.alternative-which.ensures.chosen c.in-0.is c.called.ensures.1 (λ h. h) in
     r.0
 
 pub foreign_item_fn-requires-clause-bodiless : goal.foreign_item_fn-requires-clause-bodiless
 foreign_item_fn-requires-clause-bodiless g c =
-    let r = foreign_called _ c.alternative-which.result.1.now _ _ c.alternative-which.result.0 0 (k.AFunction k.InForeign)
+    let r = foreign_called _ c.alternative-which.result.1.now _ _ c.alternative-which.result.0 0
+    (k.AFunction k.InForeign)
     (subst (λ b. IsShaped b foreign_parts) c.three.ensures c.requires.shaped).1.1
     c.alternative-which.ensures.chosen c.in-0.is c.called.ensures.1 (λ h. h) in
     let v = foreign_verdict c.args.tree.now _ _ _ _ _ c.three.ensures c.requires.shaped c.requires.verdict
@@ -28,7 +30,8 @@ foreign_item_fn-requires-clause-bodiless g c =
 
 pub returns-in_ok-foreign_item_fn-in-0 : goal.returns-in_ok-foreign_item_fn-in-0
 returns-in_ok-foreign_item_fn-in-0 g c =
-    let r = foreign_called _ c.alternative-which.result.1.now _ _ c.alternative-which.result.0 0 (k.AFunction k.InForeign)
+    let r = foreign_called _ c.alternative-which.result.1.now _ _ c.alternative-which.result.0 0
+    (k.AFunction k.InForeign)
     (subst (λ b. IsShaped b foreign_parts) c.three.ensures c.requires.shaped).1.1
     c.alternative-which.ensures.chosen c.in-0.is c.called.ensures.1 (λ h. h) in
     c.in_ok-foreign_item_fn-in-0.ensures
@@ -82,14 +85,16 @@ returns-in_ok-foreign_item_static-in-1 g c =
 
 pub foreign_item_type-requires-clause-shaped : goal.foreign_item_type-requires-clause-shaped
 foreign_item_type-requires-clause-shaped g c =
-    let r = foreign_called _ c.alternative-which.result.1.now _ _ c.alternative-which.result.0 2 (k.ATypeAlias k.InForeign)
+    let r = foreign_called _ c.alternative-which.result.1.now _ _ c.alternative-which.result.0 2
+    (k.ATypeAlias k.InForeign)
     (subst (λ b. IsShaped b foreign_parts) c.three.ensures c.requires.shaped).1.1
     c.alternative-which.ensures.chosen c.in-2.is c.called-in-2.ensures.1 (λ h. h) in
     r.0
 
 pub foreign_item_type-requires-clause-unbounded : goal.foreign_item_type-requires-clause-unbounded
 foreign_item_type-requires-clause-unbounded g c =
-    let r = foreign_called _ c.alternative-which.result.1.now _ _ c.alternative-which.result.0 2 (k.ATypeAlias k.InForeign)
+    let r = foreign_called _ c.alternative-which.result.1.now _ _ c.alternative-which.result.0 2
+    (k.ATypeAlias k.InForeign)
     (subst (λ b. IsShaped b foreign_parts) c.three.ensures c.requires.shaped).1.1
     c.alternative-which.ensures.chosen c.in-2.is c.called-in-2.ensures.1 (λ h. h) in
     let v = foreign_verdict c.args.tree.now _ _ _ _ _ c.three.ensures c.requires.shaped c.requires.verdict
@@ -98,7 +103,8 @@ foreign_item_type-requires-clause-unbounded g c =
 
 pub foreign_item_type-requires-clause-undefined : goal.foreign_item_type-requires-clause-undefined
 foreign_item_type-requires-clause-undefined g c =
-    let r = foreign_called _ c.alternative-which.result.1.now _ _ c.alternative-which.result.0 2 (k.ATypeAlias k.InForeign)
+    let r = foreign_called _ c.alternative-which.result.1.now _ _ c.alternative-which.result.0 2
+    (k.ATypeAlias k.InForeign)
     (subst (λ b. IsShaped b foreign_parts) c.three.ensures c.requires.shaped).1.1
     c.alternative-which.ensures.chosen c.in-2.is c.called-in-2.ensures.1 (λ h. h) in
     let v = foreign_verdict c.args.tree.now _ _ _ _ _ c.three.ensures c.requires.shaped c.requires.verdict
@@ -107,7 +113,8 @@ foreign_item_type-requires-clause-undefined g c =
 
 pub returns-in_ok-foreign_item_type-in-2 : goal.returns-in_ok-foreign_item_type-in-2
 returns-in_ok-foreign_item_type-in-2 g c =
-    let r = foreign_called _ c.alternative-which.result.1.now _ _ c.alternative-which.result.0 2 (k.ATypeAlias k.InForeign)
+    let r = foreign_called _ c.alternative-which.result.1.now _ _ c.alternative-which.result.0 2
+    (k.ATypeAlias k.InForeign)
     (subst (λ b. IsShaped b foreign_parts) c.three.ensures c.requires.shaped).1.1
     c.alternative-which.ensures.chosen c.in-2.is c.called-in-2.ensures.1 (λ h. h) in
     c.in_ok-foreign_item_type-in-2.ensures
@@ -118,14 +125,16 @@ returns-in_ok-foreign_item_type-in-2 g c =
 
 pub foreign_item_macro-requires-clause-shaped : goal.foreign_item_macro-requires-clause-shaped
 foreign_item_macro-requires-clause-shaped g c =
-    let r = foreign_called _ c.alternative-which.result.1.now _ _ c.alternative-which.result.0 3 (k.ItemMacro k.InForeign)
+    let r = foreign_called _ c.alternative-which.result.1.now _ _ c.alternative-which.result.0 3
+    (k.ItemMacro k.InForeign)
     (subst (λ b. IsShaped b foreign_parts) c.three.ensures c.requires.shaped).1.1
     c.alternative-which.ensures.chosen c.in-3.is c.called-in-3.ensures.1 (λ h. h) in
     r.0
 
 pub returns-in_ok-foreign_item_macro-in-3 : goal.returns-in_ok-foreign_item_macro-in-3
 returns-in_ok-foreign_item_macro-in-3 g c =
-    let r = foreign_called _ c.alternative-which.result.1.now _ _ c.alternative-which.result.0 3 (k.ItemMacro k.InForeign)
+    let r = foreign_called _ c.alternative-which.result.1.now _ _ c.alternative-which.result.0 3
+    (k.ItemMacro k.InForeign)
     (subst (λ b. IsShaped b foreign_parts) c.three.ensures c.requires.shaped).1.1
     c.alternative-which.ensures.chosen c.in-3.is c.called-in-3.ensures.1 (λ h. h) in
     let v = foreign_verdict c.args.tree.now _ _ _ _ _ c.three.ensures c.requires.shaped c.requires.verdict

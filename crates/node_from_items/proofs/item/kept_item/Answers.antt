@@ -7,8 +7,8 @@ use Rattle.syn_grammar.specs.Name.{the_item}
 use Rattle.syn_grammar.specs.Tree as t
 use Rattle.node_shapes.specs.Shape.{IsShaped}
 use Rattle.node_from_items.specs.Dispatch.{item_parts}
-use Rattle.node_from_items.proofs.FileForms.{item_fewer, item_kept, item_number, item_parted, item_shape, item_verdict_of}
-use Rattle.node_from_items.proofs.FileForms.{made_other}
+use Rattle.node_from_items.proofs.FileForms.{item_fewer, item_kept, item_number, item_parted, item_shape}
+use Rattle.node_from_items.proofs.FileForms.{item_verdict_of, made_other}
 use Rattle.node_from_items.proofs.item.kept_item.Goals as goal
 
 pub alternative-which-requires : goal.alternative-which-requires
