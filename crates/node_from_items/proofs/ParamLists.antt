@@ -91,9 +91,9 @@ dots_final f vs es i x v k l q w =
     ∙ ap (λ zs. all_listed 44 f vs (kept (elements 44 zs (t.Final x)))) (sym (drop_end es i l)) ∙ w
 
 -- the same of what follows of the value of a result
-pub ok_then : {A B : Type 0} (r : Result A B) (P Q : A → Type 0) → ((x : A) → P x → Q x) → IfOk r P → IfOk r Q
-ok_then (Ok x) P Q d h = d x h
-ok_then (Err x) P Q d h = h
+pub ok_then : {A B : Type 0} (r : Result A B) (P Q : A → Type 0) → IfOk r P → ((x : A) → P x → Q x) → IfOk r Q
+ok_then (Ok x) P Q h d = d x h
+ok_then (Err x) P Q h d = h
 
 -- what is judged of parameters in parentheses
 

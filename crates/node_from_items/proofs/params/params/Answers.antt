@@ -83,8 +83,9 @@ returns-in_ok-made-in-Some g c =
     let k = kept c.args.tree.now in
     let whole = subst (λ q. all_listed 44 f vs (kept (elements 44 (drop i es) (ending (λ b. b.now) q))) ≡ k)
     c.in-Some.is inv.whole in
-    ok_then c.put_last.result _ _ (λ p h. h r ∙ dots_final f vs es i x.now (param r c.in_ok-made-in-Some.made) k past
-    c.in_ok-made-in-Some.ensures.param whole) c.put_last.ensures
+    ok_then c.put_last.result _ _ c.put_last.ensures
+    (λ p h. h r ∙ dots_final f vs es i x.now (param r c.in_ok-made-in-Some.made) k past
+        c.in_ok-made-in-Some.ensures.param whole)
 
 pub returns-in-None : goal.returns-in-None
 returns-in-None g c =
