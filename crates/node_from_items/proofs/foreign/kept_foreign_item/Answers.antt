@@ -1,12 +1,20 @@
+use Rattle.std.specs.Prelude.{refl}
 use Rattle.std.proofs.Common.{◌∙◌, ap, subst}
 use Rattle.syn_grammar.specs.Kind as k
 use Rattle.syn_grammar.specs.Tree as t
 use Rattle.node_shapes.specs.Shape.{IsShaped}
-use Rattle.node_from_items.specs.Dispatch.{foreign_parts}
+use Rattle.node_from_items.specs.Dispatch.{foreign_form, foreign_parts}
 use Rattle.node_from_items.proofs.MemberForms.{foreign_called, foreign_declared, foreign_kept, foreign_private}
 use Rattle.node_from_items.proofs.MemberForms.{foreign_verdict}
 use Rattle.node_from_items.proofs.Verdicts.{foreign_alias, foreign_function, foreign_macro, foreign_static}
 use Rattle.node_from_items.proofs.foreign.kept_foreign_item.Goals as goal
+
+pub alternative-which-requires : goal.alternative-which-requires
+alternative-which-requires g c = (
+  foreign_form,
+  refl,
+  (subst (λ b. IsShaped b foreign_parts) c.three.ensures c.requires.shaped).1.1,
+)
 
 -- foreign_item_fn
 

@@ -1,9 +1,22 @@
-use Rattle.std.proofs.Common.{◌∙◌, ap}
+use Rattle.std.specs.Prelude.{refl}
+use Rattle.std.proofs.Common.{◌∙◌, ap, subst}
+use Rattle.syn_grammar.specs.Gram.{called}
 use Rattle.syn_grammar.specs.Kind as k
+use Rattle.syn_grammar.specs.Name.{the_item}
 use Rattle.syn_grammar.specs.Tree as t
+use Rattle.node_shapes.specs.Shape.{IsShaped}
+use Rattle.node_from_items.specs.Dispatch.{member_form, member_parts}
 use Rattle.node_from_items.proofs.MemberForms.{impl_front, member_kept}
 use Rattle.node_from_items.proofs.Verdicts.{impl_alias, impl_constant, impl_function, impl_macro, member_arm}
 use Rattle.node_from_items.proofs.members.kept_impl_item.Goals as goal
+
+pub alternative-which-requires : goal.alternative-which-requires
+alternative-which-requires g c = (
+  member_form k.InImpl,
+  refl,
+  (subst (λ b. IsShaped b (called the_item (member_form k.InImpl))) c.called.ensures.1
+  (subst (λ b. IsShaped b (member_parts k.InImpl)) c.four.ensures c.requires.shaped).1.1.1).1,
+)
 
 -- impl_item_fn
 
