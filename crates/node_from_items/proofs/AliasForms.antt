@@ -2,11 +2,11 @@
 use Rattle.std.specs.Prelude.{◌≡◌, true, false, Option, Some, None, refl}
 use Rattle.std.proofs.Common.{◌∙◌, ap, sym}
 use Rattle.std.proofs.lemmas.Bool.{false≢true}
-use Rattle.syn_grammar.specs.Gram.{called, ref}
+use Rattle.syn_grammar.specs.Gram.{Gram, called}
 use Rattle.syn_grammar.specs.Items as items
 use Rattle.syn_grammar.specs.Kept.{held, kept}
 use Rattle.syn_grammar.specs.Kind as k
-use Rattle.syn_grammar.specs.Name.{same_part, the_bounds, the_generics, the_name, the_type, the_value, the_where}
+use Rattle.syn_grammar.specs.Name.{Part, same_part, the_bounds, the_generics, the_name, the_type, the_value, the_where}
 use Rattle.syn_grammar.specs.Part.{found, is_some, or_else, or_nil}
 use Rattle.syn_grammar.specs.Table.{table}
 use Rattle.syn_grammar.specs.Tree as t
@@ -17,44 +17,56 @@ use Rattle.node_items.specs.declared.alias.WhereClausePlacement.{WhereClausePlac
 use Rattle.node_items.specs.declared.alias.WhereClausePlacement.TheVariants as placements
 use Rattle.node_types.specs.declared.«Type».{«Type» as Type'}
 use Rattle.syn_kinds.specs.declared.punctuation.Punctuation.{Punctuation}
+use Rattle.node_shapes.specs.Forms.{is_placed, stands_named}
 use Rattle.node_shapes.specs.Shape.{IsShaped}
 use Rattle.node_from_generics.specs.Generics.{conditions}
 use Rattle.node_views.specs.Items.{is_there, no_bounds, type_end}
 use Rattle.node_views.specs.Members.{type_value}
 use Rattle.node_words.specs.Words as words
 use Rattle.node_words.specs.Words.{absent}
-use Rattle.node_from_items.specs.Aliases.{either_end, end_of, has_placed, is_placed, plain_end, plain_end_of}
+use Rattle.node_from_items.specs.Aliases.{either_end, end_of, plain_end, plain_end_of}
 use Rattle.node_from_items.proofs.Found.{found_behind, found_called, found_here, found_mark, found_other, found_word}
-use Rattle.node_from_items.proofs.Found.{inside_shaped, kept_called}
+use Rattle.node_from_items.proofs.Found.{in_kind, inside_shaped, kept_called}
 use Rattle.node_from_items.specs.Values.{inside}
 
 -- conditions stand in front of a definition
+
+no_early : {E : Type 0} (f : E → Tree) (n : Part) (d x : Tree) → IsShaped x (table k.Where)
+    → is_placed (t.First (t.Pair (t.Called n (t.Node k.Where x)) d)) ≡ true
+    → conditions f None ≡ kept (t.Called n (t.Node k.Where x)) → ⊥
+unfolding table
+no_early f n d (t.First x) h e q = cc (q)
+no_early f n d (t.Second x) h e q = false≢true e
+no_early f n d _ h e q = absurd h
 
 pub early_end : {E : Type 0} (f : E → Tree) (o : Option (WhereClause E)) (w d : Tree)
     → IsShaped (t.First (t.Pair w d)) either_end → is_placed (t.First (t.Pair w d)) ≡ true
     → conditions f o ≡ kept w
     → type_end placements.Early (is_there o) (conditions f o) (kept d) ≡ t.First (t.Pair (kept w) (kept d))
-unfolding table
 early_end f (Some c) w d h e q = ap (λ x. t.First (t.Pair x (kept d))) q
-early_end f None (t.Called n (t.Node k.Where (t.First x))) d h e q = cc (q)
-early_end f None (t.Called n (t.Node k.Where (t.Second x))) d h e q = absurd (false≢true e)
-early_end f None (t.Called n (t.Node k.Where _)) d h e q = absurd h.0.1.1
-early_end f None (t.Called n (t.Node _ x)) d h e q = cc (h.0.1.0)
-early_end f None (t.Called n _) d h e q = absurd h.0.1
+early_end f None (t.Called n w) d h e q =
+    absurd (in_kind (λ y. is_placed (t.First (t.Pair (t.Called n y) d)) ≡ true
+    → conditions f None ≡ kept (t.Called n y) → ⊥) k.Where w h.0.1 (no_early f n d) e q)
 early_end f None _ d h e q = absurd h.0
 
 -- conditions behind no definition are none
+
+no_late : {E : Type 0} (f : E → Tree) (c : WhereClause E) (n : Part) (x y : Tree) → IsShaped y (table k.Where)
+    → is_placed (t.Second (t.Pair (t.Second x) (t.Called n (t.Node k.Where y)))) ≡ true
+    → conditions f (Some c) ≡ kept (t.Called n (t.Node k.Where y)) → ⊥
+unfolding table
+no_late f c n x (t.First y) h e q = false≢true e
+no_late f c n x (t.Second y) h e q = cc (q)
+no_late f c n x _ h e q = absurd h
+
 pub late_undefined : {E : Type 0} (f : E → Tree) (o : Option (WhereClause E)) (d w : Tree)
     → IsShaped (t.Second (t.Pair d w)) either_end → is_placed (t.Second (t.Pair d w)) ≡ true
     → conditions f o ≡ kept w → absent ≡ kept d
     → type_end placements.Early (is_there o) (conditions f o) absent ≡ t.Second (t.Pair (kept d) (kept w))
-unfolding table
 late_undefined f None d w h e q r = cc (q, r)
-late_undefined f (Some c) (t.Second x) (t.Called n (t.Node k.Where (t.First y))) h e q r = absurd (false≢true e)
-late_undefined f (Some c) (t.Second x) (t.Called n (t.Node k.Where (t.Second y))) h e q r = cc (q)
-late_undefined f (Some c) (t.Second x) (t.Called n (t.Node k.Where _)) h e q r = absurd h.1.1.1
-late_undefined f (Some c) (t.Second x) (t.Called n (t.Node _ y)) h e q r = cc (h.1.1.0)
-late_undefined f (Some c) (t.Second x) (t.Called n _) h e q r = absurd h.1.1
+late_undefined f (Some c) (t.Second x) (t.Called n w) h e q r =
+    absurd (in_kind (λ y. is_placed (t.Second (t.Pair (t.Second x) (t.Called n y))) ≡ true
+    → conditions f (Some c) ≡ kept (t.Called n y) → ⊥) k.Where w h.1.1 (no_late f c n x) e q)
 late_undefined f (Some c) (t.Second x) _ h e q r = absurd h.1
 late_undefined f (Some c) (t.First x) w h e q r = cc (r)
 late_undefined f (Some c) _ w h e q r = absurd h.0
@@ -63,16 +75,15 @@ pub ruleset ends = (early_end, late_undefined)
 
 -- without bounds
 
-bound_node : (x : Tree) → IsShaped x (ref k.BoundsColon) → is_bounded x ≡ false → kept x ≡ no_bounds
+bound_node : (x : Tree) → IsShaped x (table k.BoundsColon) → is_bounded (t.Node k.BoundsColon x) ≡ false
+    → kept (t.Node k.BoundsColon x) ≡ no_bounds
 unfolding table held same_part
-bound_node (t.Node k.BoundsColon (t.Second t.Nil)) h e = refl
-bound_node (t.Node k.BoundsColon (t.Second _)) h e = absurd h.1
-bound_node (t.Node k.BoundsColon (t.First (t.Pair a q))) h e =
-    absurd (false≢true (sym e ∙ ap is_some (found_behind the_bounds a q (found_mark the_bounds a _ _ h.1.0)
-    ∙ found_called the_bounds q _ refl h.1.1)))
-bound_node (t.Node k.BoundsColon (t.First _)) h e = absurd h.1
-bound_node (t.Node k.BoundsColon _) h e = absurd h.1
-bound_node (t.Node _ x) h e = cc (h.0)
+bound_node (t.Second t.Nil) h e = refl
+bound_node (t.Second _) h e = absurd h
+bound_node (t.First (t.Pair a q)) h e =
+    absurd (false≢true (sym e ∙ ap is_some (found_behind the_bounds a q (found_mark the_bounds a _ _ h.0)
+    ∙ found_called the_bounds q _ refl h.1)))
+bound_node (t.First _) h e = absurd h
 bound_node _ h e = absurd h
 
 the_bounds_of : (p : k.Place) (w i g b v s : Tree)
@@ -91,7 +102,8 @@ pub alias_unbounded : (p : k.Place) (w i g b v s : Tree)
     → kept b ≡ t.Called the_bounds no_bounds
 alias_unbounded p w i g b v s sh e =
     kept_called the_bounds b _ sh.1.1.1.0
-    ∙ ap (t.Called the_bounds) (bound_node (inside b) (inside_shaped the_bounds b _ sh.1.1.1.0)
+    ∙ ap (t.Called the_bounds) (in_kind (λ y. is_bounded y ≡ false → kept y ≡ no_bounds) k.BoundsColon (inside b)
+    (inside_shaped the_bounds b _ sh.1.1.1.0) bound_node
     (ap (λ q. is_bounded (or_nil q)) (sym (the_bounds_of p w i g b v s sh)) ∙ e))
 
 -- whether it is defined
@@ -190,11 +202,11 @@ alias_plainly_defined f d o w i g b v s sh e q =
     ∙ ap (λ r. is_some (found the_type (or_nil r))) (sym (the_value_of k.InImpl w i g b v s sh)) ∙ e
 
 -- where its conditions stand
-pub alias_placed : (j : k.Kind) (w i g b v s : Tree) (a : _)
+pub alias_placed : (p : k.Place) (w i g b v s : Tree) (a : Gram)
     → IsShaped v (called the_value a)
-    → has_placed (t.Node j (t.Pair w (t.Pair i (t.Pair g (t.Pair b (t.Pair v s)))))) ≡ true
+    → stands_named (k.ATypeAlias p) (t.Pair w (t.Pair i (t.Pair g (t.Pair b (t.Pair v s))))) ≡ true
     → is_placed (inside v) ≡ true
-alias_placed j w i g b (t.Called n x) s a h e = e
-alias_placed j w i g b _ s a h e = absurd h
+alias_placed p w i g b (t.Called n x) s a h e = e
+alias_placed p w i g b _ s a h e = absurd h
 
 pub ruleset aliases = (alias_unbounded)

@@ -21,7 +21,7 @@ use Rattle.node_from_items.proofs.Found.{without_generics, without_where}
 
 -- a value, as a part
 
-pub value_other : (n : Part) (o : Tree) → same_part n the_value ≡ false → IsShaped o optional_value
+pub value_other : (n : Part) (o : Tree) → same_part the_value n ≡ false → IsShaped o optional_value
     → found n o ≡ None
 value_other n (t.First (t.Pair a q)) e h =
     found_behind n a q (found_mark n a _ _ h.0) ∙ found_other n the_value q _ e h.1

@@ -1,6 +1,6 @@
 -- Parts of what was read, by their names.
 use Rattle.std.specs.Prelude.{◌≡◌, ℕ, Bool, true, false, List, Some, None, cond, refl}
-use Rattle.std.proofs.Common.{◌∙◌, ap, sym}
+use Rattle.std.proofs.Common.{◌∙◌, ap, subst, sym}
 use Rattle.std.proofs.lemmas.Bool.{false≢true}
 use Rattle.proc_macro2.specs.Token.{Token}
 use Rattle.syn_grammar.specs.Gram.{Gram, alt, called, mark, nothing, ref, word}
@@ -42,16 +42,16 @@ found_maybe_word n _ test p h = absurd h
 
 -- what has another name, and what has that name
 
-pub found_other : (n m : Part) (x : Tree) (a : Gram) → same_part n m ≡ false → IsShaped x (called m a)
+pub found_other : (n m : Part) (x : Tree) (a : Gram) → same_part m n ≡ false → IsShaped x (called m a)
     → found n x ≡ None
 found_other n m (t.Called j x) a e h =
-    ap (λ i. cond (same_part n i) (Some x) None) h.0 ∙ ap (λ b. cond b (Some x) None) e
+    ap (λ i. cond (same_part i n) (Some x) None) h.0 ∙ ap (λ b. cond b (Some x) None) e
 found_other n m _ a e h = absurd h
 
 pub found_called : (n : Part) (x : Tree) (a : Gram) → same_part n n ≡ true → IsShaped x (called n a)
     → found n x ≡ Some (inside x)
 found_called n (t.Called j x) a e h =
-    ap (λ i. cond (same_part n i) (Some x) None) h.0 ∙ ap (λ b. cond b (Some x) None) e
+    ap (λ i. cond (same_part i n) (Some x) None) h.0 ∙ ap (λ b. cond b (Some x) None) e
 found_called n _ a e h = absurd h
 
 pub kept_called : (n : Part) (x : Tree) (a : Gram) → IsShaped x (called n a) → kept x ≡ t.Called n (kept (inside x))
@@ -70,39 +70,46 @@ found_behind n x y e = ap (λ o. or_else o (found n y)) e
 pub found_here : (n : Part) (x y z : Tree) → found n x ≡ Some z → found n (t.Pair x y) ≡ Some z
 found_here n x y z e = ap (λ o. or_else o (found n y)) e
 
+-- a node of a kind, by what it is made of
+pub in_kind : (P : Tree → Type 0) (l : Kind) (x : Tree) → IsShaped x (ref l)
+    → ((y : Tree) → IsShaped y (table l) → P (t.Node l y)) → P x
+in_kind P l (t.Node j y) h d =
+    subst (λ i. P (t.Node i y)) (sym h.0) (d y (subst (λ i. IsShaped y (table i)) h.0 h.1))
+in_kind P l _ h d = absurd h
+
 -- no parameters, and no conditions
 
-generic_node : (x : Tree) → IsShaped x (ref k.Generics) → is_generic x ≡ false → kept x ≡ t.Node k.Generics absent
+generic_node : (x : Tree) → IsShaped x (table k.Generics) → is_generic (t.Node k.Generics x) ≡ false
+    → kept (t.Node k.Generics x) ≡ t.Node k.Generics absent
 unfolding table held same_part
-generic_node (t.Node k.Generics (t.Second t.Nil)) h e = refl
-generic_node (t.Node k.Generics (t.Second _)) h e = absurd h.1
-generic_node (t.Node k.Generics (t.First (t.Pair a (t.Pair q c)))) h e =
+generic_node (t.Second t.Nil) h e = refl
+generic_node (t.Second _) h e = absurd h
+generic_node (t.First (t.Pair a (t.Pair q c))) h e =
     absurd (false≢true (sym e ∙ ap is_some (found_behind the_parameters a (t.Pair q c)
-    (found_mark the_parameters a _ _ h.1.0)
-    ∙ found_here the_parameters q c (inside q) (found_called the_parameters q _ refl h.1.1.0))))
-generic_node (t.Node k.Generics (t.First (t.Pair a _))) h e = absurd h.1.1
-generic_node (t.Node k.Generics (t.First _)) h e = absurd h.1
-generic_node (t.Node k.Generics _) h e = absurd h.1
-generic_node (t.Node _ x) h e = cc (h.0)
+    (found_mark the_parameters a _ _ h.0)
+    ∙ found_here the_parameters q c (inside q) (found_called the_parameters q _ refl h.1.0))))
+generic_node (t.First (t.Pair a _)) h e = absurd h.1
+generic_node (t.First _) h e = absurd h
 generic_node _ h e = absurd h
 
-where_node : (x : Tree) → IsShaped x (ref k.Where) → is_where x ≡ false → kept x ≡ t.Node k.Where absent
+where_node : (x : Tree) → IsShaped x (table k.Where) → is_where (t.Node k.Where x) ≡ false
+    → kept (t.Node k.Where x) ≡ t.Node k.Where absent
 unfolding table held same_part
-where_node (t.Node k.Where (t.Second t.Nil)) h e = refl
-where_node (t.Node k.Where (t.Second _)) h e = absurd h.1
-where_node (t.Node k.Where (t.First q)) h e =
-    absurd (false≢true (sym e ∙ ap is_some (found_called the_clause q _ refl h.1)))
-where_node (t.Node k.Where _) h e = absurd h.1
-where_node (t.Node _ x) h e = cc (h.0)
+where_node (t.Second t.Nil) h e = refl
+where_node (t.Second _) h e = absurd h
+where_node (t.First q) h e = absurd (false≢true (sym e ∙ ap is_some (found_called the_clause q _ refl h)))
 where_node _ h e = absurd h
 
 pub without_generics : (x : Tree) → IsShaped x (called the_generics (ref k.Generics)) → is_generic (inside x) ≡ false
     → kept x ≡ no_generics
 without_generics x h e =
     kept_called the_generics x _ h
-    ∙ ap (t.Called the_generics) (generic_node (inside x) (inside_shaped the_generics x _ h) e)
+    ∙ ap (t.Called the_generics) (in_kind (λ y. is_generic y ≡ false → kept y ≡ t.Node k.Generics absent) k.Generics
+    (inside x) (inside_shaped the_generics x _ h) generic_node e)
 
 pub without_where : (x : Tree) → IsShaped x (called the_where (ref k.Where)) → is_where (inside x) ≡ false
     → kept x ≡ no_where
 without_where x h e =
-    kept_called the_where x _ h ∙ ap (t.Called the_where) (where_node (inside x) (inside_shaped the_where x _ h) e)
+    kept_called the_where x _ h
+    ∙ ap (t.Called the_where) (in_kind (λ y. is_where y ≡ false → kept y ≡ t.Node k.Where absent) k.Where (inside x)
+    (inside_shaped the_where x _ h) where_node e)

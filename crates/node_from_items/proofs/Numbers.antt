@@ -3,11 +3,12 @@ use Rattle.std.specs.Prelude.{◌≡◌, ℕ, Bool, true, false, Option, Some, N
 use Rattle.syn_grammar.specs.Kept as keeps
 use Rattle.syn_grammar.specs.Tree as t
 use Rattle.syn_grammar.specs.Tree.{Tree}
+use Rattle.node_shapes.specs.Forms.{is_unsafe_impl}
 use Rattle.node_shapes.specs.Shape.{IsShaped}
 use Rattle.node_views.specs.Items.{by_unsafety, is_there}
 use Rattle.node_views.specs.Members.{impl_number}
 use Rattle.node_from_items.specs.Members.{optional_default}
-use Rattle.node_from_items.specs.Numbers.{by_unsafe, is_unsafe_impl}
+use Rattle.node_from_items.specs.Numbers.{by_unsafe}
 
 pub by_number : {A : Type 0} (o : Option A) (b : Bool) (m n : ℕ) (x : Tree) → is_there o ≡ b
     → by_unsafety o m n x ≡ by_unsafe b m n x

@@ -1,6 +1,6 @@
 -- Parameters one behind the other, of which the last may take any number of arguments more.
 use Rattle.std.specs.Prelude.{◌≡◌, ◌&&◌, ◌<◌, ◌≤◌, ◌+◌, ℕ, zero, suc, Bool, true, false, List, [], ◌∷◌, drop, length}
-use Rattle.std.specs.Prelude.{not, refl}
+use Rattle.std.specs.Prelude.{not, refl, IfOk, Result, Ok, Err}
 use Rattle.std.proofs.Common.{◌∙◌, ap, arith, get_or, subst, sym}
 use Rattle.std.proofs.lemmas.Bool.{false≢true}
 use Rattle.std.proofs.lemmas.List.{drop_more}
@@ -89,6 +89,11 @@ pub dots_final : {A : Type 0} (f : A → Tree) (vs : List A) (es : List Element)
 dots_final f vs es i x v k l q w =
     ap (λ y. all_listed 44 f vs (t.Final y)) q
     ∙ ap (λ zs. all_listed 44 f vs (kept (elements 44 zs (t.Final x)))) (sym (drop_end es i l)) ∙ w
+
+-- the same of what follows of the value of a result
+pub ok_then : {A B : Type 0} (r : Result A B) (P Q : A → Type 0) → IfOk r P → ((x : A) → P x → Q x) → IfOk r Q
+ok_then (Ok x) P Q h d = d x h
+ok_then (Err x) P Q h d = h
 
 -- what is judged of parameters in parentheses
 

@@ -20,7 +20,7 @@ use Rattle.node_from_items.proofs.Found.{found_word}
 
 -- a type, as a part
 
-type_other : (n : Part) (u : Tree) → same_part n the_type ≡ false → IsShaped u optional_type → found n u ≡ None
+type_other : (n : Part) (u : Tree) → same_part the_type n ≡ false → IsShaped u optional_type → found n u ≡ None
 type_other n (t.First (t.Pair a q)) e h =
     found_behind n a q (found_mark n a _ _ h.0) ∙ found_other n the_type q _ e h.1
 type_other n (t.First _) e h = absurd h

@@ -5,7 +5,7 @@ use Rattle.std.proofs.lemmas.Bool.{false≢true}
 use Rattle.proc_macro2.specs.Token.{Token}
 use Rattle.syn_grammar.specs.Gram.{Gram, Keep, alt, called, nothing}
 use Rattle.syn_grammar.specs.Items.{is_trait, trait_form}
-use Rattle.syn_grammar.specs.Kept.{kept}
+use Rattle.syn_grammar.specs.Kept.{is_there, kept}
 use Rattle.syn_grammar.specs.Name.{Part, same_part, the_auto, the_equals, the_generics, the_name, the_safety}
 use Rattle.syn_grammar.specs.Part.{found, has, is_some, or_else}
 use Rattle.syn_grammar.specs.Tree as t
@@ -17,7 +17,7 @@ use Rattle.node_from_items.proofs.Found.{found_behind, found_called, found_here,
 use Rattle.node_from_items.specs.Values.{inside}
 
 -- a part that may stand there, under that name or another
-pub maybe_other : (n m : Part) (x : Tree) (test : List Token → Bool) (a : Gram) → same_part n m ≡ false
+pub maybe_other : (n m : Part) (x : Tree) (test : List Token → Bool) (a : Gram) → same_part m n ≡ false
     → IsShaped x (alt test (called m a) nothing) → found n x ≡ None
 maybe_other n m (t.First q) test a e h = found_other n m q a e h
 maybe_other n m (t.Second t.Nil) test a e h = refl
@@ -81,5 +81,10 @@ alias_plain u a w i g b sh e =
       (sym (ap is_some (found_behind the_auto u (t.Pair a (t.Pair w (t.Pair i (t.Pair g (t.First b)))))
       (maybe_other the_auto the_safety u _ _ refl sh.0))) ∙ q.1)),
     )
+
+-- what is kept as nothing isn't there
+pub not_there : (u : Tree) → kept u ≡ absent → is_there u ≡ false
+not_there (t.First x) e = cc (e)
+not_there _ e = refl
 
 pub ruleset traits = (alias_plain)

@@ -13,16 +13,15 @@ use Rattle.syn_grammar.specs.Tree as t
 use Rattle.syn_grammar.specs.Tree.{Tree}
 use Rattle.syn_grammar.specs.Verdicts.{const_is_raw, form_in, has_bounds, impl_is_raw, is_defined, is_public}
 use Rattle.syn_grammar.specs.Verdicts.{item_verdict, marked, raw_if, refused_if, root_inside}
-use Rattle.syn_grammar.specs.Lists.{default_there, item_form}
+use Rattle.syn_grammar.specs.Lists.{default_there}
 use Rattle.node_shapes.specs.Shape.{IsShaped}
 use Rattle.node_take.specs.Seqs.{among}
 use Rattle.node_views.specs.Items.{private}
-use Rattle.node_words.specs.Words.{absent}
-use Rattle.node_from_items.specs.Dispatch.{item_parts, member_form, member_parts}
+use Rattle.node_from_items.specs.Dispatch.{member_form, member_parts}
 use Rattle.node_from_items.specs.Values.{inside, own}
 use Rattle.node_from_items.proofs.Found.{found_behind, found_called, found_here, found_node, found_other, inside_shaped}
-use Rattle.node_from_items.proofs.Found.{kept_called}
-use Rattle.node_from_items.proofs.TraitForms.{found_in, maybe_other, none_there}
+use Rattle.node_from_items.proofs.Found.{in_kind, kept_called}
+use Rattle.node_from_items.proofs.TraitForms.{maybe_other}
 
 -- what was chosen of alternatives, where it is a node
 pub chosen_node : (m n : ℕ) (j : k.Kind) (y : Tree) → choice (among m n (t.Node j y)) ≡ t.Node j y
@@ -34,26 +33,9 @@ chosen_shaped : (m n : ℕ) (x : Tree) (j : k.Kind) → IsShaped x (ref j) → c
 chosen_shaped m n (t.Node i y) j h = chosen_node m n i y
 chosen_shaped m n _ j h = absurd h
 
--- an item in a file
-
-pub file_form : (a v i f : Tree) (n : ℕ) (j : k.Kind)
-    → IsShaped (t.Pair a (t.Pair v i)) item_parts → inside i ≡ among 22 n f → IsShaped f (ref j)
-    → item_verdict k.InFile (t.Pair a (t.Pair v i)) ≡ Keep
-    → form_in k.InFile (is_public (the the_visibility (t.Pair a (t.Pair v i)))) f ≡ Keep
-unfolding same_part
-file_form a v i f n j sh e s d =
-    let x = t.Pair a (t.Pair v i) in
-    let p : found the_item x ≡ Some (inside i) =
-    found_behind the_item a (t.Pair v i) (found_node the_item a _ sh.0)
-    ∙ found_behind the_item v i (found_other the_item the_visibility v _ refl sh.1.0)
-    ∙ found_called the_item i _ refl sh.1.1 in
-    sym (ap (λ o. form_in k.InFile (is_public (the the_visibility x)) (choice (or_nil o))) p
-    ∙ ap (λ y. form_in k.InFile (is_public (the the_visibility x)) (choice y)) e
-    ∙ ap (form_in k.InFile (is_public (the the_visibility x))) (chosen_shaped 22 n f j s)) ∙ d
-
 -- an item in a trait or an impl
 
-default_other : (p : k.Place) (n : Part) (d : Tree) → same_part n the_default ≡ false → IsShaped d (default_there p)
+default_other : (p : k.Place) (n : Part) (d : Tree) → same_part the_default n ≡ false → IsShaped d (default_there p)
     → found n d ≡ None
 default_other k.InTrait n d e h = maybe_other n the_default d _ _ e h
 default_other k.InImpl n d e h = maybe_other n the_default d _ _ e h
@@ -96,24 +78,30 @@ not_not : (b : Bool) → not b ≡ false → b ≡ true
 not_not true e = refl
 not_not false e = absurd (false≢true (sym e))
 
+bound_defined : (a b : Bool) → (a || not b) ≡ false → (a ≡ false) × (b ≡ true)
+bound_defined a b e = let q = not_either a (not b) e in (q.0, not_not b q.1)
+
+typed_valueless : (a b : Bool) → refused_if (not a) (raw_if b) ≡ Keep → (a ≡ true) × (b ≡ false)
+typed_valueless a b e = let q = not_refused (not a) (raw_if b) e in (not_not a q.0, not_raw b q.1)
+
 -- without pub
 
-private_node : (x : Tree) → IsShaped x (ref k.Visibility) → is_public x ≡ false → kept x ≡ private
+private_node : (x : Tree) → IsShaped x (table k.Visibility) → is_public (t.Node k.Visibility x) ≡ false
+    → kept (t.Node k.Visibility x) ≡ private
 unfolding table held same_part
-private_node (t.Node k.Visibility (t.Second t.Nil)) h e = refl
-private_node (t.Node k.Visibility (t.Second _)) h e = absurd h.1
-private_node (t.Node k.Visibility (t.First (t.Pair q r))) h e =
-    absurd (false≢true (sym e ∙ ap is_some (found_here the_pub q r (inside q) (found_called the_pub q _ refl h.1.0))))
-private_node (t.Node k.Visibility (t.First _)) h e = absurd h.1
-private_node (t.Node k.Visibility _) h e = absurd h.1
-private_node (t.Node _ x) h e = cc (h.0)
+private_node (t.Second t.Nil) h e = refl
+private_node (t.Second _) h e = absurd h
+private_node (t.First (t.Pair q r)) h e =
+    absurd (false≢true (sym e ∙ ap is_some (found_here the_pub q r (inside q) (found_called the_pub q _ refl h.0))))
+private_node (t.First _) h e = absurd h
 private_node _ h e = absurd h
 
 pub private_part : (v : Tree) → IsShaped v (called the_visibility (ref k.Visibility)) → is_public (inside v) ≡ false
     → kept v ≡ t.Called the_visibility private
 private_part v h e =
     kept_called the_visibility v _ h
-    ∙ ap (t.Called the_visibility) (private_node (inside v) (inside_shaped the_visibility v _ h) e)
+    ∙ ap (t.Called the_visibility) (in_kind (λ y. is_public y ≡ false → kept y ≡ private) k.Visibility (inside v)
+    (inside_shaped the_visibility v _ h) private_node e)
 
 -- the visibility of an item
 
@@ -142,83 +130,69 @@ unmarked p a v d i sh e =
 
 -- in front of a member of a trait stands neither pub nor default
 
-trait_unmarked : (b : Bool) (f : Tree) → form_in k.InTrait b f ≡ Keep → b ≡ false
+pub trait_unmarked : (b : Bool) (f : Tree) → form_in k.InTrait b f ≡ Keep → b ≡ false
 trait_unmarked true (t.Node k.AConst x) e = cc (e)
 trait_unmarked true (t.Node (k.ItemMacro p) x) e = cc (e)
 trait_unmarked true _ e = cc (e)
 trait_unmarked false f e = refl
 
-pub trait_front : (a v d i f : Tree) (n : ℕ) (j : k.Kind)
-    → IsShaped (t.Pair a (t.Pair v (t.Pair d i))) (member_parts k.InTrait) → inside i ≡ among 4 n f
-    → IsShaped f (ref j) → item_verdict k.InTrait (t.Pair a (t.Pair v (t.Pair d i))) ≡ Keep
-    → (kept v ≡ t.Called the_visibility private) × (kept d ≡ absent)
-unfolding same_part
-trait_front a v d i f n j sh e s q =
-    let x = t.Pair a (t.Pair v (t.Pair d i)) in
-    let u = unmarked k.InTrait a v d i sh
-    (trait_unmarked (marked k.InTrait x) f (member_verdict k.InTrait a v d i f n j sh e s q)) in
-    (u.0, none_there the_default d _ _ refl sh.1.1.0 (found_in the_default d i u.1))
-
 pub trait_constant : (b : Bool) (f : Tree) → IsShaped f (ref k.AConst) → form_in k.InTrait b f ≡ Keep
     → const_is_raw false (own f) ≡ false
-trait_constant b (t.Node k.AConst x) h e = (not_either b (const_is_raw false x) (not_raw _ e)).1
-trait_constant b (t.Node _ x) h e = cc (h.0)
-trait_constant b _ h e = absurd h
+trait_constant b f h e =
+    in_kind (λ y. form_in k.InTrait b y ≡ Keep → const_is_raw false (own y) ≡ false) k.AConst f h
+    (λ x s d. (not_either b (const_is_raw false x) (not_raw _ d)).1) e
 
 -- members of an impl
 
 pub impl_function : (b : Bool) (f : Tree) → IsShaped f (ref (k.AFunction k.InImpl)) → form_in k.InImpl b f ≡ Keep
     → has the_body (own f) ≡ true
-impl_function b (t.Node (k.AFunction p) x) h e = not_not (has the_body x) (not_raw _ e)
-impl_function b (t.Node _ x) h e = cc (h.0)
-impl_function b _ h e = absurd h
+impl_function b f h e =
+    in_kind (λ y. form_in k.InImpl b y ≡ Keep → has the_body (own y) ≡ true) (k.AFunction k.InImpl) f h
+    (λ x s d. not_not (has the_body x) (not_raw _ d)) e
 
 pub impl_constant : (b : Bool) (f : Tree) → IsShaped f (ref k.AConst) → form_in k.InImpl b f ≡ Keep
     → const_is_raw true (own f) ≡ false
-impl_constant b (t.Node k.AConst x) h e = not_raw _ e
-impl_constant b (t.Node _ x) h e = cc (h.0)
-impl_constant b _ h e = absurd h
+impl_constant b f h e =
+    in_kind (λ y. form_in k.InImpl b y ≡ Keep → const_is_raw true (own y) ≡ false) k.AConst f h
+    (λ x s d. not_raw _ d) e
 
 pub impl_alias : (b : Bool) (f : Tree) → IsShaped f (ref (k.ATypeAlias k.InImpl)) → form_in k.InImpl b f ≡ Keep
     → (has_bounds (own f) ≡ false) × (is_defined (own f) ≡ true)
-impl_alias b (t.Node (k.ATypeAlias p) x) h e =
-    let q = not_either (has_bounds x) (not (is_defined x)) (not_raw _ e) in (q.0, not_not (is_defined x) q.1)
-impl_alias b (t.Node _ x) h e = cc (h.0)
-impl_alias b _ h e = absurd h
+impl_alias b f h e =
+    in_kind (λ y. form_in k.InImpl b y ≡ Keep → (has_bounds (own y) ≡ false) × (is_defined (own y) ≡ true))
+    (k.ATypeAlias k.InImpl) f h (λ x s d. bound_defined (has_bounds x) (is_defined x) (not_raw _ d)) e
 
 pub impl_macro : (b : Bool) (f : Tree) → IsShaped f (ref (k.ItemMacro k.InImpl)) → form_in k.InImpl b f ≡ Keep
     → b ≡ false
-impl_macro b (t.Node (k.ItemMacro p) x) h e = (not_refused b Keep e).0
-impl_macro b (t.Node _ x) h e = cc (h.0)
-impl_macro b _ h e = absurd h
+impl_macro b f h e =
+    in_kind (λ y. form_in k.InImpl b y ≡ Keep → b ≡ false) (k.ItemMacro k.InImpl) f h
+    (λ x s d. (not_refused b Keep d).0) e
 
 -- in an extern block
 
 pub foreign_function : (b : Bool) (f : Tree) → IsShaped f (ref (k.AFunction k.InForeign))
     → form_in k.InForeign b f ≡ Keep → has the_body (own f) ≡ false
-foreign_function b (t.Node (k.AFunction p) x) h e = not_raw _ e
-foreign_function b (t.Node _ x) h e = cc (h.0)
-foreign_function b _ h e = absurd h
+foreign_function b f h e =
+    in_kind (λ y. form_in k.InForeign b y ≡ Keep → has the_body (own y) ≡ false) (k.AFunction k.InForeign) f h
+    (λ x s d. not_raw _ d) e
 
 pub foreign_static : (b : Bool) (f : Tree) → IsShaped f (ref k.AStatic) → form_in k.InForeign b f ≡ Keep
     → (has the_type (own f) ≡ true) × (has the_value (own f) ≡ false)
-foreign_static b (t.Node k.AStatic x) h e =
-    let q = not_refused (not (has the_type x)) (raw_if (has the_value x)) e in
-    (not_not (has the_type x) q.0, not_raw (has the_value x) q.1)
-foreign_static b (t.Node _ x) h e = cc (h.0)
-foreign_static b _ h e = absurd h
+foreign_static b f h e =
+    in_kind (λ y. form_in k.InForeign b y ≡ Keep → (has the_type (own y) ≡ true) × (has the_value (own y) ≡ false))
+    k.AStatic f h (λ x s d. typed_valueless (has the_type x) (has the_value x) d) e
 
 pub foreign_alias : (b : Bool) (f : Tree) → IsShaped f (ref (k.ATypeAlias k.InForeign))
     → form_in k.InForeign b f ≡ Keep → (has_bounds (own f) ≡ false) × (is_defined (own f) ≡ false)
-foreign_alias b (t.Node (k.ATypeAlias p) x) h e = not_either (has_bounds x) (is_defined x) (not_raw _ e)
-foreign_alias b (t.Node _ x) h e = cc (h.0)
-foreign_alias b _ h e = absurd h
+foreign_alias b f h e =
+    in_kind (λ y. form_in k.InForeign b y ≡ Keep → (has_bounds (own y) ≡ false) × (is_defined (own y) ≡ false))
+    (k.ATypeAlias k.InForeign) f h (λ x s d. not_either (has_bounds x) (is_defined x) (not_raw _ d)) e
 
 pub foreign_macro : (b : Bool) (f : Tree) → IsShaped f (ref (k.ItemMacro k.InForeign))
     → form_in k.InForeign b f ≡ Keep → b ≡ false
-foreign_macro b (t.Node (k.ItemMacro p) x) h e = (not_refused b Keep e).0
-foreign_macro b (t.Node _ x) h e = cc (h.0)
-foreign_macro b _ h e = absurd h
+foreign_macro b f h e =
+    in_kind (λ y. form_in k.InForeign b y ≡ Keep → b ≡ false) (k.ItemMacro k.InForeign) f h
+    (λ x s d. (not_refused b Keep d).0) e
 
 -- in a file
 
@@ -229,62 +203,64 @@ both_true false b e = absurd (false≢true (sym e))
 
 pub file_function : (b : Bool) (f : Tree) → IsShaped f (ref (k.AFunction k.InFile)) → form_in k.InFile b f ≡ Keep
     → has the_body (own f) ≡ true
-file_function b (t.Node (k.AFunction p) x) h e = not_not (has the_body x) (not_raw _ e)
-file_function b (t.Node _ x) h e = cc (h.0)
-file_function b _ h e = absurd h
+file_function b f h e =
+    in_kind (λ y. form_in k.InFile b y ≡ Keep → has the_body (own y) ≡ true) (k.AFunction k.InFile) f h
+    (λ x s d. not_not (has the_body x) (not_raw _ d)) e
 
 pub file_static : (b : Bool) (f : Tree) → IsShaped f (ref k.AStatic) → form_in k.InFile b f ≡ Keep
     → (has the_type (own f) ≡ true) × (has the_value (own f) ≡ true)
-file_static b (t.Node k.AStatic x) h e =
-    both_true (has the_type x) (has the_value x)
-    (not_raw _ (not_refused (not (has the_type x) && not (has the_value x)) _ e).1)
-file_static b (t.Node _ x) h e = cc (h.0)
-file_static b _ h e = absurd h
+file_static b f h e =
+    in_kind (λ y. form_in k.InFile b y ≡ Keep → (has the_type (own y) ≡ true) × (has the_value (own y) ≡ true))
+    k.AStatic f h (λ x s d. both_true (has the_type x) (has the_value x)
+        (not_raw _ (not_refused (not (has the_type x) && not (has the_value x)) _ d).1)) e
 
 pub file_constant : (b : Bool) (f : Tree) → IsShaped f (ref k.AConst) → form_in k.InFile b f ≡ Keep
     → const_is_raw true (own f) ≡ false
-file_constant b (t.Node k.AConst x) h e = not_raw _ e
-file_constant b (t.Node _ x) h e = cc (h.0)
-file_constant b _ h e = absurd h
+file_constant b f h e =
+    in_kind (λ y. form_in k.InFile b y ≡ Keep → const_is_raw true (own y) ≡ false) k.AConst f h
+    (λ x s d. not_raw _ d) e
 
 pub file_alias : (b : Bool) (f : Tree) → IsShaped f (ref (k.ATypeAlias k.InFile)) → form_in k.InFile b f ≡ Keep
     → (has_bounds (own f) ≡ false) × (is_defined (own f) ≡ true)
-file_alias b (t.Node (k.ATypeAlias p) x) h e =
-    let q = not_either (has_bounds x) (not (is_defined x)) (not_raw _ e) in (q.0, not_not (is_defined x) q.1)
-file_alias b (t.Node _ x) h e = cc (h.0)
-file_alias b _ h e = absurd h
+file_alias b f h e =
+    in_kind (λ y. form_in k.InFile b y ≡ Keep → (has_bounds (own y) ≡ false) × (is_defined (own y) ≡ true))
+    (k.ATypeAlias k.InFile) f h (λ x s d. bound_defined (has_bounds x) (is_defined x) (not_raw _ d)) e
 
 pub file_use : (b : Bool) (f : Tree) → IsShaped f (ref k.AUse) → form_in k.InFile b f ≡ Keep
     → root_inside (the the_path (own f)) ≡ false
-file_use b (t.Node k.AUse x) h e = not_raw _ e
-file_use b (t.Node _ x) h e = cc (h.0)
-file_use b _ h e = absurd h
+file_use b f h e =
+    in_kind (λ y. form_in k.InFile b y ≡ Keep → root_inside (the the_path (own y)) ≡ false) k.AUse f h
+    (λ x s d. not_raw _ d) e
 
 private_impl : (b c d e : Bool) → (b && not (c && not d)) ≡ false → (c || e) ≡ false → b ≡ false
 private_impl false c d e q r = refl
 private_impl true false d e q r = absurd (false≢true (sym q))
 private_impl true true d e q r = absurd (false≢true (sym r))
 
-pub file_impl : (b : Bool) (f : Tree) → IsShaped f (ref k.AnImpl) → form_in k.InFile b f ≡ Keep
-    → (impl_is_raw (own f) ≡ false) × (b ≡ false)
-file_impl b (t.Node k.AnImpl x) h e =
+impl_kept : (b : Bool) (x : Tree) → form_in k.InFile b (t.Node k.AnImpl x) ≡ Keep
+    → (impl_is_raw x ≡ false) × (b ≡ false)
+impl_kept b x e =
     let q = not_refused (b && not (has the_const x && not (has the_default x))) (raw_if (impl_is_raw x)) e in
     let r = not_raw (impl_is_raw x) q.1 in
     (r, private_impl b (has the_const x) (has the_default x) _ q.0 r)
-file_impl b (t.Node _ x) h e = cc (h.0)
-file_impl b _ h e = absurd h
+
+pub file_impl : (b : Bool) (f : Tree) → IsShaped f (ref k.AnImpl) → form_in k.InFile b f ≡ Keep
+    → (impl_is_raw (own f) ≡ false) × (b ≡ false)
+file_impl b f h e =
+    in_kind (λ y. form_in k.InFile b y ≡ Keep → (impl_is_raw (own y) ≡ false) × (b ≡ false)) k.AnImpl f h
+    (λ x s d. impl_kept b x d) e
 
 pub file_foreign : (b : Bool) (f : Tree) → IsShaped f (ref k.AForeignModule) → form_in k.InFile b f ≡ Keep
     → b ≡ false
-file_foreign b (t.Node k.AForeignModule x) h e = (not_refused b Keep e).0
-file_foreign b (t.Node _ x) h e = cc (h.0)
-file_foreign b _ h e = absurd h
+file_foreign b f h e =
+    in_kind (λ y. form_in k.InFile b y ≡ Keep → b ≡ false) k.AForeignModule f h
+    (λ x s d. (not_refused b Keep d).0) e
 
 pub file_macro : (b : Bool) (f : Tree) → IsShaped f (ref (k.ItemMacro k.InFile)) → form_in k.InFile b f ≡ Keep
     → b ≡ false
-file_macro b (t.Node (k.ItemMacro p) x) h e = (not_refused b Keep e).0
-file_macro b (t.Node _ x) h e = cc (h.0)
-file_macro b _ h e = absurd h
+file_macro b f h e =
+    in_kind (λ y. form_in k.InFile b y ≡ Keep → b ≡ false) (k.ItemMacro k.InFile) f h
+    (λ x s d. (not_refused b Keep d).0) e
 
 -- none of these is kept
 pub file_raw : (b : Bool) (f : Tree) (j : k.Kind) → ((x : Tree) → form_in k.InFile b (t.Node j x) ≡ AsRaw)
@@ -307,25 +283,3 @@ member_arm p x a v d i y f q n m e h w c r u j z =
       subst (λ b. form_in p (marked p b) f ≡ Keep) (sym e)
       (member_verdict p a v d i f m j sh o s (subst (λ b. item_verdict p b ≡ Keep) e w)),
     )
-
-pub file_arm : (x a v i y f : Tree) (q : Part) (n m : ℕ)
-    → x ≡ t.Pair a (t.Pair v i) → IsShaped x item_parts → item_verdict k.InFile x ≡ Keep
-    → i ≡ t.Called q y → y ≡ among 22 n f → n ≡ m
-    → (j : k.Kind) → (IsShaped (among 22 m f) item_form → IsShaped f (ref j))
-    → IsShaped f (ref j) × (form_in k.InFile (is_public (inside v)) f ≡ Keep)
-file_arm x a v i y f q n m e h w c r u j z =
-    let sh = subst (λ b. IsShaped b item_parts) e h in
-    let o : inside i ≡ among 22 m f = ap inside c ∙ r ∙ ap (λ l. among 22 l f) u in
-    let s = z (subst (λ b. IsShaped b item_form) o (inside_shaped the_item i _ sh.1.1)) in (
-      s,
-      subst (λ b. form_in k.InFile (is_public b) f ≡ Keep) (the_visibility_of a v i sh.0 sh.1.0)
-      (file_form a v i f m j sh o s (subst (λ b. item_verdict k.InFile b ≡ Keep) e w)),
-    )
-
-pub ruleset traits = (member_verdict, unmarked, not_raw)
-
-pub ruleset impls = (member_verdict, not_raw)
-
-pub ruleset foreigns = (not_raw, not_refused)
-
-pub ruleset items = (file_form, not_raw, not_refused)

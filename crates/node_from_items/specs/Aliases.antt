@@ -1,6 +1,5 @@
--- What parts of types with another name are read of, which conditions stand where, and the tree that one is, of its
--- parts.
-use Rattle.std.specs.Prelude.{Bool, true, false, Option}
+-- What parts of types with another name are read of, and the tree that one is, of its parts.
+use Rattle.std.specs.Prelude.{Option}
 use Rattle.syn_grammar.specs.Gram.{Gram, ref}
 use Rattle.syn_grammar.specs.Items as items
 use Rattle.syn_grammar.specs.Kind as k
@@ -25,18 +24,6 @@ either_end =
 -- one behind it alone
 abbrev pub plain_end : Gram
 plain_end = items.definition ▸ the_where ∶ ref k.Where
-
--- The where clause stands in front of the definition where there is one. Behind it there is one only if there is a
--- definition.
-abbrev pub is_placed : Tree → Bool
-is_placed (t.First (t.Pair (t.Called n (t.Node j (t.Second x))) d)) = false
-is_placed (t.Second (t.Pair (t.Second d) (t.Called n (t.Node j (t.First x))))) = false
-is_placed x = true
-
--- the same of what stands behind the bounds of a type with another name
-abbrev pub has_placed : Tree → Bool
-has_placed (t.Node j (t.Pair w (t.Pair i (t.Pair g (t.Pair b (t.Pair (t.Called m x) s)))))) = is_placed x
-has_placed x = true
 
 -- a definition and conditions, as they stand
 abbrev pub end_of :

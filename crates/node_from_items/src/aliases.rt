@@ -1,7 +1,8 @@
 //! Types with another name.
 
-ghost use Rattle.node_from_items.specs.Aliases.{either_end, end_of, has_placed, is_placed, plain_end, plain_end_of};
+ghost use Rattle.node_from_items.specs.Aliases.{either_end, end_of, plain_end, plain_end_of};
 ghost use Rattle.node_from_items.specs.Values.{own};
+ghost use Rattle.node_shapes.specs.Forms.{is_placed};
 ghost use Rattle.node_shapes.specs.Shape.{IsShaped};
 ghost use Rattle.node_views.specs.Generics as generic_views;
 ghost use Rattle.node_views.specs.Items as views;
@@ -143,7 +144,6 @@ pub fn item_type<E: Drop, R: Reader<E>>(
 ) -> Result<ItemType<E>, AllocError>
     requires ready { R.ready below.now }
     requires shaped { IsShaped tree.now (g.ref (k.ATypeAlias k.InFile)) }
-    requires placed { has_placed tree.now ≡ true }
     requires unbounded { has_bounds (own tree.now) ≡ false }
     requires defined { is_defined (own tree.now) ≡ true }
     requires fewer { node_count tree.now ≤ R.bound below.now }
@@ -274,7 +274,6 @@ pub fn foreign_item_type<E: Drop, R: Reader<E>>(
 ) -> Result<ForeignItemType<E>, AllocError>
     requires ready { R.ready below.now }
     requires shaped { IsShaped tree.now (g.ref (k.ATypeAlias k.InForeign)) }
-    requires placed { has_placed tree.now ≡ true }
     requires unbounded { has_bounds (own tree.now) ≡ false }
     requires undefined { is_defined (own tree.now) ≡ false }
     requires fewer { node_count tree.now ≤ R.bound below.now }

@@ -3,8 +3,9 @@
 ghost use Rattle.node_from_items.specs.Dispatch.{foreign_parts};
 ghost use Rattle.node_from_items.specs.Functions.{body_or_semicolon};
 ghost use Rattle.node_from_items.specs.Members.{foreign_braces};
-ghost use Rattle.node_from_items.specs.Numbers.{by_unsafe, is_unsafe};
+ghost use Rattle.node_from_items.specs.Numbers.{by_unsafe};
 ghost use Rattle.node_from_items.specs.Values.{own};
+ghost use Rattle.node_shapes.specs.Forms.{is_unsafe};
 ghost use Rattle.node_shapes.specs.Shape.{IsShaped};
 ghost use Rattle.node_views.specs.Generics as generic_views;
 ghost use Rattle.node_views.specs.Items as items;
@@ -159,7 +160,7 @@ pub fn foreign_item_macro<E: Drop, R: Reader<E>>(
 }
 
 // An item of an extern block that is kept.
-#[tactic(auto, using(crate::proofs::Verdicts::foreigns), unfolding(syn_grammar::specs::Table::table, syn_grammar::specs::Kept::held, syn_kinds::specs::Table::marks, syn_kinds::specs::Table::sign, syn_kinds::specs::Table::word))]
+#[tactic(auto, unfolding(syn_grammar::specs::Table::table, syn_grammar::specs::Kept::held, syn_kinds::specs::Table::marks, syn_kinds::specs::Table::sign, syn_kinds::specs::Table::word))]
 fn kept_foreign_item<E: Drop, R: Reader<E>>(
     below: &R,
     tree: &Tree<'_>,

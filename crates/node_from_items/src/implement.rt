@@ -2,8 +2,9 @@
 
 ghost use Rattle.node_from_items.specs.Members.{head_type, impl_braces, optional_default, optional_for};
 ghost use Rattle.node_from_items.specs.Members.{optional_polarity};
-ghost use Rattle.node_from_items.specs.Numbers.{by_unsafe, is_unsafe_impl, what_is_kept};
+ghost use Rattle.node_from_items.specs.Numbers.{by_unsafe, what_is_kept};
 ghost use Rattle.node_from_items.specs.Values.{inside as inside_of, own};
+ghost use Rattle.node_shapes.specs.Forms.{is_unsafe_impl};
 ghost use Rattle.node_shapes.specs.Shape.{IsShaped};
 ghost use Rattle.node_views.specs.Generics as generic_views;
 ghost use Rattle.node_views.specs.Items as items;

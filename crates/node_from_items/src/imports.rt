@@ -108,10 +108,13 @@ fn use_trees(
         list.push_value(use_tree(alloc, &element.tree)?)?;
         list.push_punct(Punctuation::new([element.spacing.span()]))?;
     }
-    if let Some(element) = last {
-        list.push_value(use_tree(alloc, element)?)?;
+    match last {
+        Some(element) => {
+            list.push_value(use_tree(alloc, element)?)?;
+            Ok(list)
+        }
+        None => Ok(list),
     }
-    Ok(list)
 }
 
 /// What is imported.
@@ -149,10 +152,13 @@ fn tops(alloc: Global, tree: &Tree<'_>) -> Result<Punctuated<UseTree, token::Com
         list.push_value(top(alloc, &element.tree)?)?;
         list.push_punct(Punctuation::new([element.spacing.span()]))?;
     }
-    if let Some(element) = last {
-        list.push_value(top(alloc, element)?)?;
+    match last {
+        Some(element) => {
+            list.push_value(top(alloc, element)?)?;
+            Ok(list)
+        }
+        None => Ok(list),
     }
-    Ok(list)
 }
 
 // What is imported where it may begin with `::` and doesn't.

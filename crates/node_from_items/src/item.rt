@@ -1,24 +1,29 @@
 //! Items: which one is, by its kind.
 
-ghost use Rattle.node_from_items.specs.Dispatch.{is_numbered, item_parts};
+ghost use Rattle.node_from_items.specs.Dispatch.{item_parts};
 ghost use Rattle.node_from_items.specs.Members.{traits_item};
+ghost use Rattle.node_shapes.specs.Forms.{is_numbered, stands_named};
 ghost use Rattle.node_shapes.specs.Shape.{IsShaped};
+ghost use Rattle.node_take.specs.Seqs.{among};
+ghost use Rattle.node_views.specs.Generics.{visibility};
 ghost use Rattle.node_views.specs.Imports as imports;
 ghost use Rattle.node_views.specs.Items as items;
 ghost use Rattle.node_views.specs.Members as members;
+ghost use Rattle.node_views.specs.Paths.{inner_of};
 ghost use Rattle.node_words.specs.Words.{judged as kept_first};
 ghost use Rattle.reader_tree.specs.Size.{node_count};
-ghost use Rattle.std.specs.Prelude.{◌≡◌, ◌≤◌, IfOk, true};
+ghost use Rattle.std.specs.Prelude.{[], ◌≡◌, ◌≤◌, IfOk, true};
 ghost use Rattle.syn_grammar.specs.Gram as g;
 ghost use Rattle.syn_grammar.specs.Kept.{kept};
 ghost use Rattle.syn_grammar.specs.Kind as k;
+ghost use Rattle.syn_grammar.specs.Lists.{item_form};
 ghost use Rattle.syn_grammar.specs.Tree as t;
-ghost use Rattle.syn_grammar.specs.Verdicts.{item_verdict};
+ghost use Rattle.syn_grammar.specs.Verdicts.{form_in_file, is_public, item_verdict};
 
 use crate::aliases::item_type;
 use crate::data::{item_enum, item_struct, item_union};
 use crate::foreign::item_foreign_mod;
-use crate::front::what_stands_in_front;
+use crate::front::{Front, what_stands_in_front};
 use crate::functions::item_fn;
 use crate::implement::item_impl;
 use crate::imports::item_use;
@@ -179,28 +184,31 @@ fn of_traits<E: Drop, R: ItemMaker<E>>(below: &R, traits: Traits<E>) -> Result<E
     }
 }
 
-// An item that is kept.
-#[tactic(auto, using(crate::proofs::Verdicts::items), unfolding(syn_grammar::specs::Table::table, syn_grammar::specs::Kept::held, syn_kinds::specs::Table::marks, syn_kinds::specs::Table::sign, syn_kinds::specs::Table::word))]
-fn kept_item<E: Drop, R: ItemMaker<E>>(below: &R, tree: &Tree<'_>) -> Result<E, AllocError>
+// An item that is kept, of what stands in front of it, and of the alternative that it is.
+fn chosen_item<E: Drop, R: ItemMaker<E>>(
+    below: &R,
+    front: Front<E>,
+    which: usize,
+    form: &Tree<'_>,
+) -> Result<E, AllocError>
     requires ready { R.ready below.now }
-    requires shaped { IsShaped tree.now item_parts }
-    requires numbered { is_numbered tree.now ≡ true }
-    requires verdict { item_verdict k.InFile tree.now ≡ g.Keep }
-    requires fewer { node_count tree.now ≤ R.bound below.now }
-    ensures { IfOk result (λ x. R.view x ≡ t.Node k.AnItem (kept_first (kept tree.now))) }
+    requires shaped { IsShaped (among 22 which form.now) item_form }
+    requires numbered { is_numbered 0 (among 22 which form.now) ≡ true }
+    requires verdict { form_in_file (is_public (visibility R.view front.vis)) form.now ≡ g.Keep }
+    requires fewer { node_count form.now ≤ R.bound below.now }
+    requires none_inside { inner_of front.attrs.items ≡ [] }
+    ensures { IfOk result (λ x. R.view x ≡ items.item_of R.view front.attrs.items (visibility R.view front.vis)
+        (kept (among 22 which form.now))) }
 {
-    let (attrs, vis, own) = take::three(tree);
-    let front = what_stands_in_front(below, attrs, vis)?;
-    let (which, form) = take::alternative(22, take::called(own));
     match which {
         0 => below.of_fn(item_fn(below, front, form)?),
         1 => below.of_extern_crate(item_extern_crate(below, front, form)?),
         2 | 8 => below.of_foreign_mod(item_foreign_mod(below, front.attrs, form)?),
         3 => below.of_use(item_use(below, front, form)?),
         4 => below.of_static(item_static(below, front, form)?),
-        10 | 19 => below.of_impl(item_impl(below, front.attrs, form)?),
         7 => below.of_const(item_const(below, front, form)?),
         9 | 12 => below.of_mod(item_mod(below, front, form)?),
+        10 | 19 => below.of_impl(item_impl(below, front.attrs, form)?),
         11 | 18 => of_traits(below, item_traits(below, front, form)?),
         13 => below.of_type(item_type(below, front, form)?),
         14 => below.of_struct(item_struct(below, front, form)?),
@@ -209,6 +217,21 @@ fn kept_item<E: Drop, R: ItemMaker<E>>(below: &R, tree: &Tree<'_>) -> Result<E, 
         21 => below.of_macro(item_macro(below, front.attrs, form)?),
         _ => unreachable!(),
     }
+}
+
+// An item that is kept.
+fn kept_item<E: Drop, R: ItemMaker<E>>(below: &R, tree: &Tree<'_>) -> Result<E, AllocError>
+    requires ready { R.ready below.now }
+    requires shaped { IsShaped tree.now item_parts }
+    requires numbered { stands_named k.AnItem (t.First tree.now) ≡ true }
+    requires verdict { item_verdict k.InFile tree.now ≡ g.Keep }
+    requires fewer { node_count tree.now ≤ R.bound below.now }
+    ensures { IfOk result (λ x. R.view x ≡ t.Node k.AnItem (kept_first (kept tree.now))) }
+{
+    let (attrs, vis, own) = take::three(tree);
+    let front = what_stands_in_front(below, attrs, vis)?;
+    let (which, form) = take::alternative(22, take::called(own));
+    chosen_item(below, front, which, form)
 }
 
 /// An item, by its kind.

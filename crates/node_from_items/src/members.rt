@@ -28,7 +28,7 @@ use reader_tree::tree::Tree;
 use std::alloc::{AllocError, Global};
 
 // An item of a trait that is kept.
-#[tactic(auto, using(crate::proofs::Verdicts::traits), unfolding(syn_grammar::specs::Table::table, syn_grammar::specs::Kept::held, syn_kinds::specs::Table::marks, syn_kinds::specs::Table::sign, syn_kinds::specs::Table::word))]
+#[tactic(auto, unfolding(syn_grammar::specs::Table::table, syn_grammar::specs::Kept::held, syn_kinds::specs::Table::marks, syn_kinds::specs::Table::sign, syn_kinds::specs::Table::word))]
 fn kept_trait_item<E: Drop, R: Maker<E>>(
     below: &R,
     tree: &Tree<'_>,
@@ -98,7 +98,7 @@ impl<'r, E: Drop, R: Maker<E>> Make<TraitItem<E>> for TraitItems<'r, R> {
 }
 
 // An item of an impl that is kept.
-#[tactic(auto, using(crate::proofs::Verdicts::impls), unfolding(syn_grammar::specs::Table::table, syn_grammar::specs::Kept::held, syn_kinds::specs::Table::marks, syn_kinds::specs::Table::sign, syn_kinds::specs::Table::word))]
+#[tactic(auto, unfolding(syn_grammar::specs::Table::table, syn_grammar::specs::Kept::held, syn_kinds::specs::Table::marks, syn_kinds::specs::Table::sign, syn_kinds::specs::Table::word))]
 fn kept_impl_item<E: Drop, R: Maker<E>>(
     below: &R,
     tree: &Tree<'_>,

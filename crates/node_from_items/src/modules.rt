@@ -2,8 +2,9 @@
 
 ghost use Rattle.node_from_items.specs.Functions.{optional_unsafe};
 ghost use Rattle.node_from_items.specs.Modules.{module_end, optional_rename};
-ghost use Rattle.node_from_items.specs.Numbers.{by_unsafe, is_unsafe};
+ghost use Rattle.node_from_items.specs.Numbers.{by_unsafe};
 ghost use Rattle.node_from_items.specs.Values.{own};
+ghost use Rattle.node_shapes.specs.Forms.{is_unsafe};
 ghost use Rattle.node_shapes.specs.Shape.{IsShaped};
 ghost use Rattle.node_views.specs.Generics as generics;
 ghost use Rattle.node_views.specs.Items as views;

@@ -3,8 +3,9 @@
 ghost use Rattle.node_from_items.specs.Functions.{body_or_semicolon};
 ghost use Rattle.node_from_items.specs.Members.{alias_behind, optional_auto, trait_behind, trait_braces};
 ghost use Rattle.node_from_items.specs.Members.{traits_item};
-ghost use Rattle.node_from_items.specs.Numbers.{by_unsafe, is_unsafe, what_is_kept};
+ghost use Rattle.node_from_items.specs.Numbers.{by_unsafe, what_is_kept};
 ghost use Rattle.node_from_items.specs.Values.{own};
+ghost use Rattle.node_shapes.specs.Forms.{is_unsafe};
 ghost use Rattle.node_shapes.specs.Shape.{IsShaped};
 ghost use Rattle.node_views.specs.Data as fields;
 ghost use Rattle.node_views.specs.Functions as functions;

@@ -112,7 +112,8 @@ none_of_two : (w v : String) (l : Look) (x : Tree) (b : Gram) (r : List Token)
 none_of_two w v l (t.Pair (t.First u) z) b r e h d q =
     absurd (one_of_both (at w) (at v then l) (flat (t.Pair (t.First u) z) ++ r)
     (λ p. unseen_word the_safety w "unsafe" u z r e d.0 p)
-    (λ p. unseen_word the_safety v "unsafe" u z r h d.0 (first_of (at v) l _ p)) q)
+    (λ p. unseen_word the_safety v "unsafe" u z r h d.0
+        (first_of (at v) l (flat (t.Pair (t.First u) z) ++ r) p)) q)
 none_of_two w v l (t.Pair (t.Second u) z) b r e h d q = refl
 none_of_two w v l (t.Pair _ z) b r e h d q = absurd d.0
 none_of_two w v l _ b r e h d q = absurd d
@@ -124,9 +125,10 @@ const_seen : (x : Tree) (l : Look) (r : List Token) → Derives x items.impl_for
 const_seen (t.Pair d (t.Pair (t.First c) x)) l r h q = refl
 const_seen (t.Pair (t.First d) (t.Pair (t.Second c) x)) l r h q =
     absurd (unseen_word the_default "const" "default" d (t.Pair (t.Second c) x) r refl h.0
-    (first_of (at "const") l _ q))
+    (first_of (at "const") l (flat (t.Pair (t.First d) (t.Pair (t.Second c) x)) ++ r) q))
 const_seen (t.Pair (t.Second t.Nil) (t.Pair (t.Second c) x)) l r h q =
-    absurd (seen_word the_const "const" c x r h.1.0 (first_of (at "const") l _ q))
+    absurd (seen_word the_const "const" c x r h.1.0
+    (first_of (at "const") l (flat (t.Pair (t.Second c) x) ++ r) q))
 const_seen (t.Pair (t.Second _) (t.Pair (t.Second c) x)) l r h q = absurd h.0.1
 const_seen (t.Pair _ (t.Pair (t.Second c) x)) l r h q = absurd h.0
 const_seen (t.Pair d (t.Pair _ x)) l r h q = absurd h.1.0
@@ -136,12 +138,15 @@ const_seen _ l r h q = absurd h
 unsafe_seen : (x : Tree) (l : Look) (r : List Token) → Derives x items.impl_form r
     → sees (at "unsafe" then l) (flat x ++ r) ≡ true → is_unsafe_impl x ≡ true
 unsafe_seen (t.Pair (t.First d) x) l r h q =
-    absurd (unseen_word the_default "unsafe" "default" d x r refl h.0 (first_of (at "unsafe") l _ q))
+    absurd (unseen_word the_default "unsafe" "default" d x r refl h.0
+    (first_of (at "unsafe") l (flat (t.Pair (t.First d) x) ++ r) q))
 unsafe_seen (t.Pair (t.Second t.Nil) (t.Pair (t.First c) x)) l r h q =
-    absurd (unseen_word the_const "unsafe" "const" c x r refl h.1.0 (first_of (at "unsafe") l _ q))
+    absurd (unseen_word the_const "unsafe" "const" c x r refl h.1.0
+    (first_of (at "unsafe") l (flat (t.Pair (t.First c) x) ++ r) q))
 unsafe_seen (t.Pair (t.Second t.Nil) (t.Pair (t.Second t.Nil) (t.Pair (t.First u) x))) l r h q = refl
 unsafe_seen (t.Pair (t.Second t.Nil) (t.Pair (t.Second t.Nil) (t.Pair (t.Second u) x))) l r h q =
-    absurd (seen_word the_safety "unsafe" u x r h.1.1.0 (first_of (at "unsafe") l _ q))
+    absurd (seen_word the_safety "unsafe" u x r h.1.1.0
+    (first_of (at "unsafe") l (flat (t.Pair (t.Second u) x) ++ r) q))
 unsafe_seen (t.Pair (t.Second t.Nil) (t.Pair (t.Second t.Nil) (t.Pair _ x))) l r h q = absurd h.1.1.0
 unsafe_seen (t.Pair (t.Second t.Nil) (t.Pair (t.Second t.Nil) _)) l r h q = absurd h.1.1
 unsafe_seen (t.Pair (t.Second t.Nil) (t.Pair (t.Second _) x)) l r h q = absurd h.1.0.1
@@ -157,11 +162,13 @@ unsafe_unseen (t.Pair (t.First d) x) l r h q = refl
 unsafe_unseen (t.Pair (t.Second t.Nil) (t.Pair (t.First c) x)) l r h q =
     absurd (one_of_both (at "impl") (at "default" then l) (flat (t.Pair (t.First c) x) ++ r)
     (λ p. unseen_word the_const "impl" "const" c x r refl h.1.0 p)
-    (λ p. unseen_word the_const "default" "const" c x r refl h.1.0 (first_of (at "default") l _ p)) q)
+    (λ p. unseen_word the_const "default" "const" c x r refl h.1.0
+        (first_of (at "default") l (flat (t.Pair (t.First c) x) ++ r) p)) q)
 unsafe_unseen (t.Pair (t.Second t.Nil) (t.Pair (t.Second t.Nil) (t.Pair (t.First u) x))) l r h q =
     absurd (one_of_both (at "impl") (at "default" then l) (flat (t.Pair (t.First u) x) ++ r)
     (λ p. unseen_word the_safety "impl" "unsafe" u x r refl h.1.1.0 p)
-    (λ p. unseen_word the_safety "default" "unsafe" u x r refl h.1.1.0 (first_of (at "default") l _ p)) q)
+    (λ p. unseen_word the_safety "default" "unsafe" u x r refl h.1.1.0
+        (first_of (at "default") l (flat (t.Pair (t.First u) x) ++ r) p)) q)
 unsafe_unseen (t.Pair (t.Second t.Nil) (t.Pair (t.Second t.Nil) (t.Pair (t.Second u) x))) l r h q = refl
 unsafe_unseen (t.Pair (t.Second t.Nil) (t.Pair (t.Second t.Nil) (t.Pair _ x))) l r h q = absurd h.1.1.0
 unsafe_unseen (t.Pair (t.Second t.Nil) (t.Pair (t.Second t.Nil) _)) l r h q = absurd h.1.1
@@ -174,73 +181,69 @@ unsafe_unseen _ l r h q = absurd h
 
 -- by the kind of the item
 
-in_extern : (x : Tree) (r : List Token) → Derives x (ref k.AForeignModule) r
-    → sees (at "extern") (flat x ++ r) ≡ true → is_numbered 2 (t.First x) ≡ true
-unfolding table
-in_extern (t.Node k.AForeignModule x) r d q = none_in_front "extern" x _ r refl d.1 q
-in_extern (t.Node _ x) r d q = cc (d.0)
-in_extern _ r d q = absurd d
+-- one of that kind, where that is seen
+seen_numbered : (n : ℕ) (l : k.Kind) (s : Look) (x : Tree) (r : List Token)
+    → ((y : Tree) → Derives y (table l) r → sees s (flat y ++ r) ≡ true
+        → is_numbered n (t.First (t.Node l y)) ≡ true)
+    → Derives x (ref l) r → sees s (flat x ++ r) ≡ true → is_numbered n (t.First x) ≡ true
+seen_numbered n l s (t.Node j y) r f d q =
+    subst (λ i. is_numbered n (t.First (t.Node i y)) ≡ true) (sym d.0)
+    (f y (subst (λ i. Derives y (table i) r) d.0 d.1) q)
+seen_numbered n l s _ r f d q = absurd d
 
-in_unsafe_extern : (x : Tree) (l : Look) (r : List Token) → Derives x (ref k.AForeignModule) r
-    → sees (at "unsafe" then l) (flat x ++ r) ≡ true → is_numbered 8 (t.First x) ≡ true
+in_extern : (y : Tree) (r : List Token) → Derives y (table k.AForeignModule) r
+    → sees (at "extern") (flat y ++ r) ≡ true → is_numbered 2 (t.First (t.Node k.AForeignModule y)) ≡ true
 unfolding table
-in_unsafe_extern (t.Node k.AForeignModule x) l r d q = unsafe_in_front x _ r d.1 (first_of (at "unsafe") l _ q)
-in_unsafe_extern (t.Node _ x) l r d q = cc (d.0)
-in_unsafe_extern _ l r d q = absurd d
+in_extern y r d q = none_in_front "extern" y _ r refl d q
 
-in_mod : (x : Tree) (r : List Token) → Derives x (ref k.AModule) r
-    → sees (at "mod") (flat x ++ r) ≡ true → is_numbered 12 (t.First x) ≡ true
+in_unsafe_extern : (y : Tree) (r : List Token) → Derives y (table k.AForeignModule) r
+    → sees (at "unsafe" then at "extern") (flat y ++ r) ≡ true
+    → is_numbered 8 (t.First (t.Node k.AForeignModule y)) ≡ true
 unfolding table
-in_mod (t.Node k.AModule x) r d q = none_in_front "mod" x _ r refl d.1 q
-in_mod (t.Node _ x) r d q = cc (d.0)
-in_mod _ r d q = absurd d
+in_unsafe_extern y r d q = unsafe_in_front y _ r d (first_of (at "unsafe") (at "extern") (flat y ++ r) q)
 
-in_unsafe_mod : (x : Tree) (l : Look) (r : List Token) → Derives x (ref k.AModule) r
-    → sees (at "unsafe" then l) (flat x ++ r) ≡ true → is_numbered 9 (t.First x) ≡ true
+in_mod : (y : Tree) (r : List Token) → Derives y (table k.AModule) r
+    → sees (at "mod") (flat y ++ r) ≡ true → is_numbered 12 (t.First (t.Node k.AModule y)) ≡ true
 unfolding table
-in_unsafe_mod (t.Node k.AModule x) l r d q = unsafe_in_front x _ r d.1 (first_of (at "unsafe") l _ q)
-in_unsafe_mod (t.Node _ x) l r d q = cc (d.0)
-in_unsafe_mod _ l r d q = absurd d
+in_mod y r d q = none_in_front "mod" y _ r refl d q
 
-in_trait : (x : Tree) (l : Look) (r : List Token) → Derives x (ref k.ATrait) r
-    → sees (at "trait" or (at "auto" then l)) (flat x ++ r) ≡ true → is_numbered 18 (t.First x) ≡ true
+in_unsafe_mod : (y : Tree) (r : List Token) → Derives y (table k.AModule) r
+    → sees (at "unsafe" then at "mod") (flat y ++ r) ≡ true → is_numbered 9 (t.First (t.Node k.AModule y)) ≡ true
 unfolding table
-in_trait (t.Node k.ATrait (t.First x)) l r d q = none_of_two "trait" "auto" l x _ r refl refl d.1.1 q
-in_trait (t.Node k.ATrait _) l r d q = refl
-in_trait (t.Node _ x) l r d q = cc (d.0)
-in_trait _ l r d q = absurd d
+in_unsafe_mod y r d q = unsafe_in_front y _ r d (first_of (at "unsafe") (at "mod") (flat y ++ r) q)
 
-in_unsafe_trait : (x : Tree) (r : List Token) → Derives x (ref k.ATrait) r
-    → sees (at "unsafe") (flat x ++ r) ≡ true → is_numbered 11 (t.First x) ≡ true
+in_trait : (y : Tree) (r : List Token) → Derives y (table k.ATrait) r
+    → sees (at "trait" or (at "auto" then at "trait")) (flat y ++ r) ≡ true
+    → is_numbered 18 (t.First (t.Node k.ATrait y)) ≡ true
 unfolding table
-in_unsafe_trait (t.Node k.ATrait (t.First x)) r d q = unsafe_in_front x _ r d.1.1 q
-in_unsafe_trait (t.Node k.ATrait _) r d q = refl
-in_unsafe_trait (t.Node _ x) r d q = cc (d.0)
-in_unsafe_trait _ r d q = absurd d
+in_trait (t.First x) r d q = none_of_two "trait" "auto" (at "trait") x _ r refl refl d.1 q
+in_trait _ r d q = refl
 
-in_const_impl : (x : Tree) (l : Look) (r : List Token) → Derives x (ref k.AnImpl) r
-    → sees (at "const" then l) (flat x ++ r) ≡ true → is_numbered 6 (t.First x) ≡ true
+in_unsafe_trait : (y : Tree) (r : List Token) → Derives y (table k.ATrait) r
+    → sees (at "unsafe") (flat y ++ r) ≡ true → is_numbered 11 (t.First (t.Node k.ATrait y)) ≡ true
 unfolding table
-in_const_impl (t.Node k.AnImpl (t.First x)) l r d q = const_seen x l r d.1.1 q
-in_const_impl (t.Node k.AnImpl _) l r d q = refl
-in_const_impl (t.Node _ x) l r d q = cc (d.0)
-in_const_impl _ l r d q = absurd d
+in_unsafe_trait (t.First x) r d q = unsafe_in_front x _ r d.1 q
+in_unsafe_trait _ r d q = refl
 
-in_unsafe_impl : (x : Tree) (l : Look) (r : List Token) → Derives x (ref k.AnImpl) r
-    → sees (at "unsafe" then l) (flat x ++ r) ≡ true → is_numbered 10 (t.First x) ≡ true
+in_const_impl : (y : Tree) (r : List Token) → Derives y (table k.AnImpl) r
+    → sees (at "const" then (maybe (at "unsafe") then at "impl")) (flat y ++ r) ≡ true
+    → is_numbered 6 (t.First (t.Node k.AnImpl y)) ≡ true
 unfolding table
-in_unsafe_impl (t.Node k.AnImpl (t.First x)) l r d q = unsafe_seen x l r d.1.1 q
-in_unsafe_impl (t.Node k.AnImpl _) l r d q = refl
-in_unsafe_impl (t.Node _ x) l r d q = cc (d.0)
-in_unsafe_impl _ l r d q = absurd d
+in_const_impl (t.First x) r d q = const_seen x (maybe (at "unsafe") then at "impl") r d.1 q
+in_const_impl _ r d q = refl
 
-in_impl : (x : Tree) (l : Look) (r : List Token) → Derives x (ref k.AnImpl) r
-    → sees (at "impl" or (at "default" then l)) (flat x ++ r) ≡ true → is_numbered 19 (t.First x) ≡ true
+in_unsafe_impl : (y : Tree) (r : List Token) → Derives y (table k.AnImpl) r
+    → sees (at "unsafe" then at "impl") (flat y ++ r) ≡ true → is_numbered 10 (t.First (t.Node k.AnImpl y)) ≡ true
 unfolding table
-in_impl (t.Node k.AnImpl (t.First x)) l r d q = unsafe_unseen x l r d.1.1 q
-in_impl (t.Node k.AnImpl _) l r d q = refl
-in_impl (t.Node _ x) l r d q = cc (d.0)
-in_impl _ l r d q = absurd d
+in_unsafe_impl (t.First x) r d q = unsafe_seen x (at "impl") r d.1 q
+in_unsafe_impl _ r d q = refl
+
+in_impl : (y : Tree) (r : List Token) → Derives y (table k.AnImpl) r
+    → sees (at "impl" or (at "default" then no (marks "!"))) (flat y ++ r) ≡ true
+    → is_numbered 19 (t.First (t.Node k.AnImpl y)) ≡ true
+unfolding table
+in_impl (t.First x) r d q = unsafe_unseen x (no (marks "!")) r d.1 q
+in_impl _ r d q = refl
 
 -- an item's alternatives, from one on
 
@@ -256,8 +259,11 @@ plain n l (t.Node j y) r f d = subst (λ i. is_numbered n (t.First (t.Node i y))
 plain n l _ r f d = absurd d
 
 numbered_18 : (x : Tree) (r : List Token) → Derives x (from 18 item_form) r → is_numbered 18 x ≡ true
-numbered_18 (t.First x) r d = in_trait x (at "trait") r d.1 d.0
-numbered_18 (t.Second (t.First x)) r d = in_impl x (no (marks "!")) r d.1.1 d.1.0
+numbered_18 (t.First x) r d =
+    seen_numbered 18 k.ATrait (at "trait" or (at "auto" then at "trait")) x r (λ y e q. in_trait y r e q) d.1 d.0
+numbered_18 (t.Second (t.First x)) r d =
+    seen_numbered 19 k.AnImpl (at "impl" or (at "default" then no (marks "!"))) x r (λ y e q. in_impl y r e q) d.1.1
+    d.1.0
 numbered_18 (t.Second (t.Second (t.First x))) r d = plain 20 k.AMacroDefinition x r (λ y. refl) d.1.1.1
 numbered_18 (t.Second (t.Second (t.Second (t.First x)))) r d =
     plain 21 (k.ItemMacro k.InFile) x r (λ y. refl) d.1.1.1.1
@@ -269,7 +275,7 @@ numbered_18 (t.Second _) r d = absurd d.1
 numbered_18 _ r d = absurd d
 
 numbered_12 : (x : Tree) (r : List Token) → Derives x (from 12 item_form) r → is_numbered 12 x ≡ true
-numbered_12 (t.First x) r d = in_mod x r d.1 d.0
+numbered_12 (t.First x) r d = seen_numbered 12 k.AModule (at "mod") x r (λ y e q. in_mod y r e q) d.1 d.0
 numbered_12 (t.Second (t.First x)) r d = plain 13 (k.ATypeAlias k.InFile) x r (λ y. refl) d.1.1
 numbered_12 (t.Second (t.Second (t.First x))) r d = plain 14 k.AStruct x r (λ y. refl) d.1.1.1
 numbered_12 (t.Second (t.Second (t.Second (t.First x)))) r d = plain 15 k.AnEnum x r (λ y. refl) d.1.1.1.1
@@ -287,14 +293,20 @@ numbered_12 (t.Second _) r d = absurd d.1
 numbered_12 _ r d = absurd d
 
 numbered_6 : (x : Tree) (r : List Token) → Derives x (from 6 item_form) r → is_numbered 6 x ≡ true
-numbered_6 (t.First x) r d = in_const_impl x (maybe (at "unsafe") then at "impl") r d.1 d.0
+numbered_6 (t.First x) r d =
+    seen_numbered 6 k.AnImpl (at "const" then (maybe (at "unsafe") then at "impl")) x r
+    (λ y e q. in_const_impl y r e q) d.1 d.0
 numbered_6 (t.Second (t.First x)) r d = plain 7 k.AConst x r (λ y. refl) d.1.1
-numbered_6 (t.Second (t.Second (t.First x))) r d = in_unsafe_extern x (at "extern") r d.1.1.1 d.1.1.0
-numbered_6 (t.Second (t.Second (t.Second (t.First x)))) r d = in_unsafe_mod x (at "mod") r d.1.1.1.1 d.1.1.1.0
+numbered_6 (t.Second (t.Second (t.First x))) r d =
+    seen_numbered 8 k.AForeignModule (at "unsafe" then at "extern") x r (λ y e q. in_unsafe_extern y r e q) d.1.1.1
+    d.1.1.0
+numbered_6 (t.Second (t.Second (t.Second (t.First x)))) r d =
+    seen_numbered 9 k.AModule (at "unsafe" then at "mod") x r (λ y e q. in_unsafe_mod y r e q) d.1.1.1.1 d.1.1.1.0
 numbered_6 (t.Second (t.Second (t.Second (t.Second (t.First x))))) r d =
-    in_unsafe_impl x (at "impl") r d.1.1.1.1.1 d.1.1.1.1.0
+    seen_numbered 10 k.AnImpl (at "unsafe" then at "impl") x r (λ y e q. in_unsafe_impl y r e q) d.1.1.1.1.1
+    d.1.1.1.1.0
 numbered_6 (t.Second (t.Second (t.Second (t.Second (t.Second (t.First x)))))) r d =
-    in_unsafe_trait x r d.1.1.1.1.1.1 d.1.1.1.1.1.0
+    seen_numbered 11 k.ATrait (at "unsafe") x r (λ y e q. in_unsafe_trait y r e q) d.1.1.1.1.1.1 d.1.1.1.1.1.0
 numbered_6 (t.Second (t.Second (t.Second (t.Second (t.Second (t.Second x)))))) r d = numbered_12 x r d.1.1.1.1.1.1
 numbered_6 (t.Second (t.Second (t.Second (t.Second (t.Second _))))) r d = absurd d.1.1.1.1.1
 numbered_6 (t.Second (t.Second (t.Second (t.Second _)))) r d = absurd d.1.1.1.1
@@ -306,7 +318,8 @@ numbered_6 _ r d = absurd d
 pub numbered : (x : Tree) (r : List Token) → Derives x item_form r → is_numbered 0 x ≡ true
 numbered (t.First x) r d = plain 0 (k.AFunction k.InFile) x r (λ y. refl) d.1
 numbered (t.Second (t.First x)) r d = plain 1 k.AnExternCrate x r (λ y. refl) d.1.1
-numbered (t.Second (t.Second (t.First x))) r d = in_extern x r d.1.1.1 d.1.1.0
+numbered (t.Second (t.Second (t.First x))) r d =
+    seen_numbered 2 k.AForeignModule (at "extern") x r (λ y e q. in_extern y r e q) d.1.1.1 d.1.1.0
 numbered (t.Second (t.Second (t.Second (t.First x)))) r d = plain 3 k.AUse x r (λ y. refl) d.1.1.1.1
 numbered (t.Second (t.Second (t.Second (t.Second (t.First x))))) r d =
     plain 4 k.AStatic x r (λ y. refl) d.1.1.1.1.1
