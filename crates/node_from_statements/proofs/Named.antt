@@ -10,6 +10,7 @@ use Rattle.syn_grammar.specs.Part.{choice}
 use Rattle.syn_grammar.specs.Table.{table}
 use Rattle.syn_grammar.specs.Tree.{Tree, ALiteral, Back, Called, First, Node, Pair, Second, Verbatim}
 use Rattle.syn_grammar.specs.Words.{before_dot, behind_dots, texts_of}
+use Rattle.node_shapes.specs.Forms as shapes
 use Rattle.node_shapes.specs.Forms.{is_named_item}
 use Rattle.node_shapes.specs.Shape.{IsShaped}
 use Rattle.node_views.specs.Statements.{is_named, is_named_macro, item_statement}
@@ -48,7 +49,7 @@ choice_kept _ = refl
 
 third : (p : Place) (x b w y : Tree)
     → is_named (Node (ItemMacro p) (Pair (kept x) (Pair (kept b) (Pair (kept w) (kept y)))))
-    ≡ is_named (Node (ItemMacro p) (Pair x (Pair b (Pair w y))))
+    ≡ shapes.is_named (Node (ItemMacro p) (Pair x (Pair b (Pair w y))))
 third p x b (Back l i z) y =
     ap (λ u. is_named (Node (ItemMacro p) (Pair (kept x) (Pair (kept b) (Pair u (kept y))))))
     (dotted_back (kept l) i (kept z)).3
@@ -56,25 +57,25 @@ third p x b _ y = refl
 
 second : (p : Place) (x b w : Tree)
     → is_named (Node (ItemMacro p) (Pair (kept x) (Pair (kept b) (kept w))))
-    ≡ is_named (Node (ItemMacro p) (Pair x (Pair b w)))
+    ≡ shapes.is_named (Node (ItemMacro p) (Pair x (Pair b w)))
 second p x b (Pair w y) = third p x b w y
 second p x b (Back l i z) =
     ap (λ u. is_named (Node (ItemMacro p) (Pair (kept x) (Pair (kept b) u)))) (dotted_back (kept l) i (kept z)).3
 second p x b _ = refl
 
 first : (p : Place) (x w : Tree)
-    → is_named (Node (ItemMacro p) (Pair (kept x) (kept w))) ≡ is_named (Node (ItemMacro p) (Pair x w))
+    → is_named (Node (ItemMacro p) (Pair (kept x) (kept w))) ≡ shapes.is_named (Node (ItemMacro p) (Pair x w))
 first p x (Pair b w) = second p x b w
 first p x (Back l i z) =
     ap (λ u. is_named (Node (ItemMacro p) (Pair (kept x) u))) (dotted_back (kept l) i (kept z)).3
 first p x _ = refl
 
-inside : (p : Place) (x : Tree) → is_named (Node (ItemMacro p) (kept x)) ≡ is_named (Node (ItemMacro p) x)
+inside : (p : Place) (x : Tree) → is_named (Node (ItemMacro p) (kept x)) ≡ shapes.is_named (Node (ItemMacro p) x)
 inside p (Pair x w) = first p x w
 inside p (Back l i z) = ap (λ u. is_named (Node (ItemMacro p) u)) (dotted_back (kept l) i (kept z)).3
 inside p _ = refl
 
-named_kept : (x : Tree) → is_named (kept x) ≡ is_named x
+named_kept : (x : Tree) → is_named (kept x) ≡ shapes.is_named x
 unfolding held
 named_kept (Node (ItemMacro p) x) = inside p x
 named_kept (Node i x) = refl
