@@ -16,17 +16,23 @@ use Rattle.node_views.specs.Expressions.{closure}
 use Rattle.node_views.specs.Paths.{return_type}
 use Rattle.node_views.specs.Statements.{as_block}
 use Rattle.node_words.specs.Blocks.{block_form}
+use Rattle.node_from_bodies.proofs.Nodes.{at_node}
 use Rattle.node_from_forms.proofs.BlockForms.{as_body}
+
+no_inside : (h b y : Tree) → IsShaped y (table (k.ReturnType k.WithPlus))
+    → has_type k.ExprTypedClosure (t.Pair h (t.Pair (Node (k.ReturnType k.WithPlus) y) b)) ≡ true
+    → Node (k.ReturnType k.WithPlus) (Second Nil) ≡ kept (Node (k.ReturnType k.WithPlus) y) → ⊥
+unfolding held table
+no_inside h b (Second x) s g e = false≢true g
+no_inside h b (First x) s g e = cc e
+no_inside h b _ s g e = absurd s
 
 no_type : (h r b : Tree) → IsShaped r (ref (k.ReturnType k.WithPlus))
     → has_type k.ExprTypedClosure (t.Pair h (t.Pair r b)) ≡ true
     → Node (k.ReturnType k.WithPlus) (Second Nil) ≡ kept r → ⊥
-unfolding held table
-no_type h (Node j (Second x)) b s g e = false≢true g
-no_type h (Node (k.ReturnType k.WithPlus) (First x)) b s g e = cc e
-no_type h (Node (k.ReturnType k.WithPlus) _) b s g e = absurd s.1
-no_type h (Node _ x) b s g e = cc (s.0)
-no_type h _ b s g e = absurd s
+no_type h r b s =
+    at_node (k.ReturnType k.WithPlus) (λ w. has_type k.ExprTypedClosure (t.Pair h (t.Pair w b)) ≡ true
+    → Node (k.ReturnType k.WithPlus) (Second Nil) ≡ kept w → ⊥) r s (no_inside h b)
 
 pub typed : {E : Type 0} (f : E → Tree) (o : ReturnType E) (x h r b y : Tree) → x ≡ t.Pair h (t.Pair r b)
     → IsShaped r (ref (k.ReturnType k.WithPlus)) → IsShaped b (ref k.Block)

@@ -20,15 +20,19 @@ use Rattle.node_paths.specs.declared.attribute.Attribute.{Attribute}
 use Rattle.node_views.specs.Paths.{outer_attributes}
 use Rattle.node_views.specs.Statements.{closed, diverge, in_parens, let_pattern, let_value}
 use Rattle.node_words.specs.Words.{absent, expression, optional}
+use Rattle.node_from_bodies.proofs.Nodes.{at_node}
 use Rattle.node_from_statements.specs.StatementParts.{else_part, initial, typed}
 
 -- a pattern without a type
 
-pub untyped : (x y : Tree) → IsShaped x (ref k.OnePattern) → let_pattern (kept x) y ≡ Pair (kept x) (Pair absent y)
+untyped_inside : (y z : Tree) → IsShaped z (table k.OnePattern)
+    → let_pattern (kept (Node k.OnePattern z)) y ≡ Pair (kept (Node k.OnePattern z)) (Pair absent y)
 unfolding held
-untyped (Node k.OnePattern x) y h = refl
-untyped (Node _ x) y h = cc (h.0)
-untyped _ y h = absurd h
+untyped_inside y z h = refl
+
+pub untyped : (x y : Tree) → IsShaped x (ref k.OnePattern) → let_pattern (kept x) y ≡ Pair (kept x) (Pair absent y)
+untyped x y h =
+    at_node k.OnePattern (λ w. let_pattern (kept w) y ≡ Pair (kept w) (Pair absent y)) x h (untyped_inside y)
 
 -- one with a type
 
@@ -119,13 +123,17 @@ else_stands y (First _) h e = absurd h
 else_stands y (Second w) h e = cc e
 else_stands y _ h e = absurd h
 
+value_inside : (y : Tree) → IsShaped y (table (k.Expression k.Plain))
+    → (x : Tree) × AreForms x × (Node (k.Expression k.Plain) y ≡ Node (k.Expression k.Plain) (Whole x))
+unfolding table
+value_inside (Whole x) h = (x, h, refl)
+value_inside _ h = absurd h
+
 value_form : (v : Tree) → IsShaped v (ref (k.Expression k.Plain))
     → (x : Tree) × AreForms x × (v ≡ Node (k.Expression k.Plain) (Whole x))
-unfolding table
-value_form (Node (k.Expression k.Plain) (Whole x)) h = (x, h.1, refl)
-value_form (Node (k.Expression k.Plain) _) h = absurd h.1
-value_form (Node _ x) h = cc (h.0)
-value_form _ h = absurd h
+value_form v h =
+    at_node (k.Expression k.Plain) (λ w. (x : Tree) × AreForms x × (w ≡ Node (k.Expression k.Plain) (Whole x)))
+    v h value_inside
 
 closed_open : (x : Tree) → ends_in_braces (flat x) ≡ false → closed x ≡ x
 closed_open x e = ap (λ b. cond b (in_parens x) x) e

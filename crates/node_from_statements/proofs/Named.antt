@@ -14,6 +14,7 @@ use Rattle.node_shapes.specs.Forms as shapes
 use Rattle.node_shapes.specs.Forms.{is_named_item}
 use Rattle.node_shapes.specs.Shape.{IsShaped}
 use Rattle.node_views.specs.Statements.{is_named, is_named_macro, item_statement}
+use Rattle.node_from_bodies.proofs.Nodes.{at_node}
 
 -- a form with an operand before it is kept as one
 
@@ -82,17 +83,18 @@ named_kept (Node i x) = refl
 named_kept (Back l i y) = ap is_named (dotted_back (kept l) i (kept y)).3
 named_kept _ = refl
 
-item_named : (x : Tree) → IsShaped x (ref k.AnItem) → is_named_macro (kept x) ≡ is_named_item x
+item_inside : (y : Tree) → IsShaped y (table k.AnItem)
+    → is_named_macro (kept (Node k.AnItem y)) ≡ is_named_item (Node k.AnItem y)
 unfolding held table
-item_named (Node k.AnItem (First (Pair a (Pair v (Called m x))))) h =
-    ap is_named (choice_kept x) ∙ named_kept (choice x)
-item_named (Node k.AnItem (First (Pair a (Pair v _)))) h = absurd h.1.1.1.1
-item_named (Node k.AnItem (First (Pair a _))) h = absurd h.1.1.1
-item_named (Node k.AnItem (First _)) h = absurd h.1.1
-item_named (Node k.AnItem (Verbatim x)) h = refl
-item_named (Node k.AnItem _) h = absurd h.1
-item_named (Node _ x) h = cc (h.0)
-item_named _ h = absurd h
+item_inside (First (Pair a (Pair v (Called m x)))) h = ap is_named (choice_kept x) ∙ named_kept (choice x)
+item_inside (First (Pair a (Pair v _))) h = absurd h.1.1.1
+item_inside (First (Pair a _)) h = absurd h.1.1
+item_inside (First _) h = absurd h.1
+item_inside (Verbatim x) h = refl
+item_inside _ h = absurd h
+
+item_named : (x : Tree) → IsShaped x (ref k.AnItem) → is_named_macro (kept x) ≡ is_named_item x
+item_named x h = at_node k.AnItem (λ w. is_named_macro (kept w) ≡ is_named_item w) x h item_inside
 
 by_name : (b : Bool) (x y : Tree) → b ≡ true → cond b x y ≡ x
 by_name true x y e = refl
