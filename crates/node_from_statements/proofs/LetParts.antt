@@ -74,7 +74,8 @@ or_none None = refl
 or_none (Some x) = refl
 
 found_in_value : (n : Part) (l p y i s : Tree) → same_part the_type n ≡ false
-    → IsShaped (Pair l (Pair p (Pair y (Pair i s)))) let_form → found n (Pair l (Pair p (Pair y (Pair i s)))) ≡ found n i
+    → IsShaped (Pair l (Pair p (Pair y (Pair i s)))) let_form
+    → found n (Pair l (Pair p (Pair y (Pair i s)))) ≡ found n i
 found_in_value n l p y i s e h =
     ap (λ o. or_else o (or_else (found n p) (or_else (found n y) (or_else (found n i) (found n s)))))
     (word_without n _ l h.0)
