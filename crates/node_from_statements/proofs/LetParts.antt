@@ -1,7 +1,7 @@
 -- Variables: their patterns, and the values before else.
 use Rattle.std.specs.Prelude.{◌≡◌, ℕ, Bool, true, false, not, ◌&&◌, List, [], Option, Some, None, cond, refl}
 use Rattle.std.specs.declared.boxed.Box.{Box}
-use Rattle.std.proofs.Common.{ap, sym, ◌∙◌}
+use Rattle.std.proofs.Common.{ap, subst, sym, ◌∙◌}
 use Rattle.std.proofs.lemmas.Bool.{false≢true}
 use Rattle.syn_grammar.specs.Gram.{Keep, mark, ref, word}
 use Rattle.syn_grammar.specs.Kept.{held, kept}
@@ -139,7 +139,7 @@ value_form v h =
 closed_open : (x : Tree) → ends_in_braces (flat x) ≡ false → closed x ≡ x
 closed_open x e = ap (λ b. cond b (in_parens x) x) e
 
-pub value_is : {E A : Type 0} (f : E → Tree) (d : Option (Keyword 12 × Box E A)) (y m v o : Tree)
+value_is : {E A : Type 0} (f : E → Tree) (d : Option (Keyword 12 × Box E A)) (y m v o : Tree)
     → IsShaped (First (Pair m (Pair (Called the_value v) o))) initial
     → is_let (First (Pair m (Pair (Called the_value v) o))) ≡ true → expression y ≡ kept v
     → optional (diverge f) d ≡ kept o → expression (let_value d y) ≡ kept v
@@ -154,4 +154,15 @@ value_is f (Some d) y m v o h c e p =
     let w : y ≡ kept q.0 = cc (e ∙ ap kept q.2) in
     ap expression (closed_open y (ap (λ u. ends_in_braces (flat u)) w ∙ open_kept q.0 q.1 s)) ∙ e
 
-pub ruleset values = (value_is)
+-- the same of a tree, of its parts
+pub value_held : {E A : Type 0} (f : E → Tree) (d : Option (Keyword 12 × Box E A)) (y x b m w v o : Tree)
+    → x ≡ First b → b ≡ Pair m (Pair w o) → (n : Part) × (w ≡ Called n v) → IsShaped x initial → is_let x ≡ true
+    → expression y ≡ kept v → optional (diverge f) d ≡ kept o → expression (let_value d y) ≡ kept v
+value_held f d y x b m w v o e g q h c p r =
+    let s : x ≡ First (Pair m (Pair (Called q.0 v) o)) = e ∙ ap First (g ∙ ap (λ z. Pair m (Pair z o)) q.1) in
+    let i = subst (λ z. IsShaped z initial) s h in
+    let j : x ≡ First (Pair m (Pair (Called the_value v) o)) =
+    s ∙ ap (λ n. First (Pair m (Pair (Called n v) o))) i.1.0.0 in
+    value_is f d y m v o (subst (λ z. IsShaped z initial) j h) (subst (λ z. is_let z ≡ true) j c) p r
+
+pub ruleset values = (value_held)
