@@ -36,7 +36,7 @@ changed_default f e v h =
     ap (λ z. First (Pair z (Called the_value (f (kept v))))) (sym (changed_mark the_value f e _ _ h))
 
 pub default_held : (f : Tree → Tree) (x b e w v e' v' : Tree) → x ≡ First b → b ≡ Pair e w
-    → (n : Part) × (w ≡ Called n v) → IsShaped x optional_const → e' ≡ kept e → v' ≡ f (kept v)
+    → ((n : Part) × (w ≡ Called n v)) → IsShaped x optional_const → e' ≡ kept e → v' ≡ f (kept v)
     → First (Pair e' (Called the_value v')) ≡ changed the_value f (kept x)
 default_held f x b e w v e' v' d g q h p r =
     let s : x ≡ First (Pair e (Called q.0 v)) = d ∙ ap First (g ∙ ap (Pair e) q.1) in

@@ -156,7 +156,7 @@ value_is f (Some d) y m v o h c e p =
 
 -- the same of a tree, of its parts
 pub value_held : {E A : Type 0} (f : E → Tree) (d : Option (Keyword 12 × Box E A)) (y x b m w v o : Tree)
-    → x ≡ First b → b ≡ Pair m (Pair w o) → (n : Part) × (w ≡ Called n v) → IsShaped x initial → is_let x ≡ true
+    → x ≡ First b → b ≡ Pair m (Pair w o) → ((n : Part) × (w ≡ Called n v)) → IsShaped x initial → is_let x ≡ true
     → expression y ≡ kept v → optional (diverge f) d ≡ kept o → expression (let_value d y) ≡ kept v
 value_held f d y x b m w v o e g q h c p r =
     let s : x ≡ First (Pair m (Pair (Called q.0 v) o)) = e ∙ ap First (g ∙ ap (λ z. Pair m (Pair z o)) q.1) in
