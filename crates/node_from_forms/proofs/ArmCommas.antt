@@ -57,8 +57,8 @@ arm_held a p g m b c ha hp hg hm hb =
 -- the same of a tree, of its parts
 pub arm_whole : (x i j a p g m u v b c a' p' g' m' b' c' : Tree) → x ≡ Node k.Arm i → i ≡ First j
     → j ≡ Pair a (Pair p (Pair g (Pair m (Pair u v)))) → ((n : Part) × (u ≡ Called n b))
-    → ((n : Part) × (v ≡ Called n c)) → IsShaped i (table k.Arm) → a' ≡ kept a → p' ≡ kept p → g' ≡ kept g → m' ≡ kept m → b' ≡ kept b
-    → c' ≡ not_last (kept c)
+    → ((n : Part) × (v ≡ Called n c)) → IsShaped i (table k.Arm) → a' ≡ kept a → p' ≡ kept p → g' ≡ kept g
+    → m' ≡ kept m → b' ≡ kept b → c' ≡ not_last (kept c)
     → Node k.Arm (First (Pair a' (Pair p' (Pair g' (Pair m' (Pair (Called the_body b') (Called the_comma c')))))))
     ≡ kept x
 unfolding table
