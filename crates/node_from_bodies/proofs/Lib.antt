@@ -1,4 +1,5 @@
 pub mod LiteralTokens
+pub mod Nodes
 pub mod NothingStands
 pub mod ParamForms
 pub mod RestAlone

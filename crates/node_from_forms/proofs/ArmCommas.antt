@@ -1,13 +1,14 @@
 -- Of an arm the comma alone is changed.
 use Rattle.std.specs.Prelude.{◌≡◌, refl}
-use Rattle.std.proofs.Common.{ap, ◌∙◌}
+use Rattle.std.proofs.Common.{ap, subst, sym, ◌∙◌}
 use Rattle.syn_grammar.specs.Gram.{ref}
 use Rattle.syn_grammar.specs.Kept.{held, kept, not_last}
 use Rattle.syn_grammar.specs.Kind as k
 use Rattle.syn_grammar.specs.Kind.{Kind}
-use Rattle.syn_grammar.specs.Name.{same_part, the_body, the_comma}
+use Rattle.syn_grammar.specs.Name.{Part, same_part, the_body, the_comma}
 use Rattle.syn_grammar.specs.Part.{changed}
 use Rattle.syn_grammar.specs.Say.{sign}
+use Rattle.syn_grammar.specs.Table.{table}
 use Rattle.syn_grammar.specs.Tree.{Tree, AMark, AWord, Called, First, Nil, Node, Pair, Second}
 use Rattle.node_shapes.specs.Shape.{IsShaped}
 use Rattle.node_words.specs.Words.{last}
@@ -33,7 +34,7 @@ guard_held (First (Pair _ y)) h = absurd h.0
 guard_held (First _) h = absurd h
 guard_held _ h = absurd h
 
-pub arm_held : (a p g m b c : Tree) → IsShaped a (ref k.OuterAttributes) → IsShaped p (ref k.Pattern)
+arm_held : (a p g m b c : Tree) → IsShaped a (ref k.OuterAttributes) → IsShaped p (ref k.Pattern)
     → IsShaped g guard → IsShaped m (sign "=>") → IsShaped b (ref (k.Expression k.InArm))
     → kept (Node k.Arm (First (Pair a (Pair p (Pair g (Pair m (Pair (Called the_body b) (Called the_comma c))))))))
     ≡ Node k.Arm (First (Pair (kept a) (Pair (kept p) (Pair (kept g) (Pair (kept m)
@@ -53,7 +54,29 @@ arm_held a p g m b c ha hp hg hm hb =
     (Pair (Called the_body (kept b)) (Called the_comma (not_last (kept c))))))))))
     (mark_held m hm)
 
-pub ruleset arms = (arm_held)
+-- the same of a tree, of its parts
+pub arm_whole : (x i j a p g m u v b c a' p' g' m' b' c' : Tree) → x ≡ Node k.Arm i → i ≡ First j
+    → j ≡ Pair a (Pair p (Pair g (Pair m (Pair u v)))) → ((n : Part) × (u ≡ Called n b))
+    → ((n : Part) × (v ≡ Called n c)) → IsShaped i (table k.Arm) → a' ≡ kept a → p' ≡ kept p → g' ≡ kept g
+    → m' ≡ kept m → b' ≡ kept b → c' ≡ not_last (kept c)
+    → Node k.Arm (First (Pair a' (Pair p' (Pair g' (Pair m' (Pair (Called the_body b') (Called the_comma c')))))))
+    ≡ kept x
+unfolding table
+arm_whole x i j a p g m u v b c a' p' g' m' b' c' e d f q r w ea ep eg em eb ec =
+    let s : i ≡ First (Pair a (Pair p (Pair g (Pair m (Pair (Called q.0 b) (Called r.0 c)))))) =
+    d ∙ ap First (f ∙ ap (λ z. Pair a (Pair p (Pair g (Pair m (Pair z v))))) q.1
+    ∙ ap (λ z. Pair a (Pair p (Pair g (Pair m (Pair (Called q.0 b) z))))) r.1) in
+    let h = subst (λ z. IsShaped z (table k.Arm)) s w in
+    let t : i ≡ First (Pair a (Pair p (Pair g (Pair m (Pair (Called the_body b) (Called the_comma c)))))) =
+    s ∙ ap (λ n. First (Pair a (Pair p (Pair g (Pair m (Pair (Called n b) (Called r.0 c))))))) h.1.1.1.1.1.0.0
+    ∙ ap (λ n. First (Pair a (Pair p (Pair g (Pair m (Pair (Called the_body b) (Called n c))))))) h.1.1.1.1.1.1.0 in
+    let z : Node k.Arm (First (Pair a' (Pair p' (Pair g' (Pair m' (Pair (Called the_body b') (Called the_comma c')))))))
+    ≡ Node k.Arm (First (Pair (kept a) (Pair (kept p) (Pair (kept g) (Pair (kept m) (Pair (Called the_body (kept b))
+    (Called the_comma (not_last (kept c))))))))) = cc in
+    z ∙ sym (ap kept (e ∙ ap (Node k.Arm) t)
+    ∙ arm_held a p g m b c h.1.0 h.1.1.0 h.1.1.1.0 h.1.1.1.1.0 h.1.1.1.1.1.0.1)
+
+pub ruleset arms = (arm_whole)
 
 -- none, at the end and before another arm
 

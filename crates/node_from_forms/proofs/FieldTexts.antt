@@ -1,10 +1,10 @@
 -- The indices of a text, each that of a field behind what stands before.
-use Rattle.std.specs.Prelude.{◌≡◌, ◌<◌, ◌&&◌, ◌+◌, ℕ, Bool, true, false, List, [], ◌∷◌, Option, Some}
+use Rattle.std.specs.Prelude.{◌≡◌, ◌≤◌, ◌<◌, ◌&&◌, ◌+◌, ℕ, Bool, true, false, List, [], ◌∷◌, Option, Some}
 use Rattle.std.specs.Prelude.{◌==◌, None, drop, if◌then◌else◌, length, nat_lt, refl}
 use Rattle.std.proofs.Common.{ap, arith, get_or, sym, ◌∙◌}
 use Rattle.std.proofs.lemmas.Bool.{false≢true}
 use Rattle.std.proofs.lemmas.Bool.Decides.{nat_tests}
-use Rattle.std.proofs.lemmas.List.{drop_more}
+use Rattle.std.proofs.lemmas.List.{drop_all, drop_more}
 use Rattle.syn_grammar.specs.Gram.{literal}
 use Rattle.syn_grammar.specs.Kept.{fields_in_front, index_field, index_fields, kept}
 use Rattle.syn_grammar.specs.Tree.{Tree, ALiteral, Again}
@@ -106,3 +106,8 @@ number_put l m k xs i x cs b e h p q =
     ap (λ y. fields_in_front y (kept (turns (drop (i + 1) xs)))) p
     ∙ ap (λ y. fields_in_front l (Again y (kept (turns (drop (i + 1) xs))))) h
     ∙ ap (λ ys. fields_in_front l (kept (turns ys))) (sym (at_index xs i x b e)) ∙ q
+
+-- behind the last of them
+pub fields_all : (m k : Tree) (xs : List Tree) (i : ℕ) → length xs ≤ i
+    → fields_in_front m (kept (turns (drop i xs))) ≡ k → m ≡ k
+fields_all m k xs i l h = ap (λ ys. fields_in_front m (kept (turns ys))) (sym (drop_all i xs l)) ∙ h

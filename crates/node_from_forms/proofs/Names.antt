@@ -1,6 +1,6 @@
 -- A name alone is a path of that name.
 use Rattle.std.specs.Prelude.{◌≡◌, ◌||◌, ℕ, Bool, true, false, List, codes, cond, not, refl}
-use Rattle.std.proofs.Common.{ap, sym, ◌∙◌}
+use Rattle.std.proofs.Common.{ap, ◌∙◌}
 use Rattle.syn_grammar.specs.Kept.{as_path, kept}
 use Rattle.syn_grammar.specs.Kind as k
 use Rattle.syn_grammar.specs.Say.{ident}
@@ -23,7 +23,7 @@ both false e h = cc e
 other_word : (cs ds : List ℕ) → is_reserved cs ≡ true → not (is_reserved ds) ≡ true → same_text cs ds ≡ false
 other_word cs ds e h =
     never_true (same_text cs ds) (λ (q : same_text cs ds ≡ true). both (is_reserved ds)
-    (sym (ap is_reserved (the_word cs ds q)) ∙ e) h)
+    (ap is_reserved (the_word cs ds q) ∙ e) h)
 
 none_of : (a b c : Bool) → a ≡ false → b ≡ false → c ≡ false → (a || (b || (c || false))) ≡ false
 none_of false false false e f h = refl

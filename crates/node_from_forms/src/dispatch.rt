@@ -54,19 +54,27 @@ fn in_parentheses<E: Drop, R: Maker<E>>(below: &R, own: &Tree<'_>) -> Result<Exp
     }
 }
 
-// A range without a start and an end.
-#[tactic(auto, unfolding(syn_grammar::specs::Table::table, syn_grammar::specs::Kept::held, syn_kinds::specs::Table::marks, syn_kinds::specs::Table::sign, syn_kinds::specs::Table::word))]
-fn full_range<E: Drop, R: Maker<E>>(below: &R, own: &Tree<'_>) -> Result<ExprRange<E>, AllocError>
-    requires ready { R.ready below.now }
-    requires own { IsShaped own.now (table k.ExprRange) }
-    ensures { IfOk result (λ x. views.expr_range R.view x ≡ t.Alone k.ExprRange (kept own.now)) }
+// The `..` of a range.
+#[tactic(auto, unfolding(syn_grammar::specs::Table::table, syn_kinds::specs::Table::marks, syn_kinds::specs::Table::sign))]
+fn half_open(own: &Tree<'_>) -> RangeLimits
+    requires { IsShaped own.now (table k.ExprRange) }
+    ensures kind { views.limits_kind result ≡ k.ExprRange }
+    ensures mark { views.limits_mark result ≡ kept own.now }
 {
-    let limits = RangeLimits::HalfOpen(take::sign(own));
-    expr_range(below, None, limits, None)
+    RangeLimits::HalfOpen(take::sign(own))
+}
+
+// The `..=` of a range.
+#[tactic(auto, unfolding(syn_grammar::specs::Table::table, syn_kinds::specs::Table::marks, syn_kinds::specs::Table::sign))]
+fn closed(own: &Tree<'_>) -> RangeLimits
+    requires { IsShaped own.now (table k.ExprRangeClosed) }
+    ensures kind { views.limits_kind result ≡ k.ExprRangeClosed }
+    ensures mark { views.limits_mark result ≡ kept own.now }
+{
+    RangeLimits::Closed(take::sign(own))
 }
 
 // An atom.
-#[tactic(auto, unfolding(syn_grammar::specs::Table::table, syn_grammar::specs::Kept::held, syn_kinds::specs::Table::marks, syn_kinds::specs::Table::sign, syn_kinds::specs::Table::word))]
 fn atom<E: Drop, R: Maker<E>>(
     below: &R,
     which: Alone,
@@ -102,12 +110,11 @@ fn atom<E: Drop, R: Maker<E>>(
         Alone::Break => Ok(Expr::Break(expr_break(below, own, None)?)),
         Alone::Return => Ok(Expr::Return(expr_return(below, own, None)?)),
         Alone::Yield => Ok(Expr::Yield(expr_yield(below, own, None)?)),
-        Alone::Range => Ok(Expr::Range(full_range(below, own)?)),
+        Alone::Range => Ok(Expr::Range(expr_range(below, None, half_open(own), None)?)),
     }
 }
 
 // A form with an operand behind it alone, other than attributes.
-#[tactic(auto, unfolding(syn_grammar::specs::Table::table, syn_grammar::specs::Kept::held, syn_kinds::specs::Table::marks, syn_kinds::specs::Table::sign, syn_kinds::specs::Table::word))]
 fn prefix<E: Drop, R: Maker<E>>(
     below: &R,
     which: Before,
@@ -133,18 +140,15 @@ fn prefix<E: Drop, R: Maker<E>>(
         Before::Yield => Ok(Expr::Yield(expr_yield(below, own, Some(right))?)),
         Before::Closure => Ok(Expr::Closure(expr_closure(below, own, right)?)),
         Before::Range => {
-            let limits = RangeLimits::HalfOpen(take::sign(own));
-            Ok(Expr::Range(expr_range(below, None, limits, Some(right))?))
+            Ok(Expr::Range(expr_range(below, None, half_open(own), Some(right))?))
         }
         Before::RangeClosed => {
-            let limits = RangeLimits::Closed(take::sign(own));
-            Ok(Expr::Range(expr_range(below, None, limits, Some(right))?))
+            Ok(Expr::Range(expr_range(below, None, closed(own), Some(right))?))
         }
     }
 }
 
 // A form with an operand before it alone.
-#[tactic(auto, unfolding(syn_grammar::specs::Table::table, syn_grammar::specs::Kept::held, syn_kinds::specs::Table::marks, syn_kinds::specs::Table::sign, syn_kinds::specs::Table::word))]
 fn postfix<E: Drop, R: Maker<E>>(
     below: &R,
     left: &Tree<'_>,
@@ -172,14 +176,12 @@ fn postfix<E: Drop, R: Maker<E>>(
             Ok(Expr::Cast(expr_cast(below, operand, own)?))
         }
         Behind::Range => {
-            let limits = RangeLimits::HalfOpen(take::sign(own));
-            Ok(Expr::Range(expr_range(below, Some(left), limits, None)?))
+            Ok(Expr::Range(expr_range(below, Some(left), half_open(own), None)?))
         }
     }
 }
 
 // A form between two operands.
-#[tactic(auto, unfolding(syn_grammar::specs::Table::table, syn_grammar::specs::Kept::held, syn_kinds::specs::Table::marks, syn_kinds::specs::Table::sign, syn_kinds::specs::Table::word))]
 fn between<E: Drop, R: Maker<E>>(
     below: &R,
     left: &Tree<'_>,
@@ -198,12 +200,10 @@ fn between<E: Drop, R: Maker<E>>(
 {
     match which {
         Between::Range => {
-            let limits = RangeLimits::HalfOpen(take::sign(own));
-            Ok(Expr::Range(expr_range(below, Some(left), limits, Some(right))?))
+            Ok(Expr::Range(expr_range(below, Some(left), half_open(own), Some(right))?))
         }
         Between::RangeClosed => {
-            let limits = RangeLimits::Closed(take::sign(own));
-            Ok(Expr::Range(expr_range(below, Some(left), limits, Some(right))?))
+            Ok(Expr::Range(expr_range(below, Some(left), closed(own), Some(right))?))
         }
         _ => {
             let left = child(below, What::Form, left)?;
@@ -214,7 +214,7 @@ fn between<E: Drop, R: Maker<E>>(
 }
 
 // A form without attributes in front.
-#[tactic(auto, using(crate::proofs::FormFronts::plain), unfolding(syn_grammar::specs::Table::table))]
+#[tactic(auto, using(crate::proofs::FormFronts::plain))]
 fn unattributed<E: Drop, R: Maker<E>>(below: &R, tree: &Tree<'_>) -> Result<Expr<E>, AllocError>
     requires ready { R.ready below.now }
     requires shaped { AreForms tree.now }
@@ -231,7 +231,7 @@ fn unattributed<E: Drop, R: Maker<E>>(below: &R, tree: &Tree<'_>) -> Result<Expr
 }
 
 // A form with attributes in front of it, which belong to that.
-#[tactic(auto, using(crate::proofs::FormFronts::attributes), unfolding(syn_grammar::specs::Table::table))]
+#[tactic(auto, using(crate::proofs::FormFronts::attributes))]
 fn attributed<E: Drop, R: Maker<E>>(
     below: &R,
     own: &Tree<'_>,
@@ -251,7 +251,6 @@ fn attributed<E: Drop, R: Maker<E>>(
 }
 
 // A form with an operand behind it alone.
-#[tactic(auto, unfolding(syn_grammar::specs::Table::table))]
 fn before<E: Drop, R: Maker<E>>(
     below: &R,
     which: Before,
@@ -277,7 +276,6 @@ fn before<E: Drop, R: Maker<E>>(
 /// # Errors
 ///
 /// Where there is no memory for it.
-#[tactic(auto, unfolding(syn_grammar::specs::Table::table))]
 pub fn form<E: Drop, R: Maker<E>>(below: &R, tree: &Tree<'_>) -> Result<Expr<E>, AllocError>
     requires ready { R.ready below.now }
     requires shaped { AreForms tree.now }

@@ -13,34 +13,30 @@ use node_from_parts::fronts::put_in_front;
 use node_paths::attribute::Attribute;
 use std::alloc::AllocError;
 
-// The form that is one of those, with attributes in front of its own.
+// Attributes in front of those of a form that is one of these.
 macro_rules! fronted {
     ($form:ident, $front:ident, $($variant:ident)*) => {
-        match &mut $form {
+        match $form {
             $(Expr::$variant(node) => {
                 put_in_front($front, &mut node.attrs)?;
-                Ok($form)
+                Ok(())
             })*
             Expr::Verbatim(_) => unreachable!(),
         }
     };
 }
 
-/// The form, which has no attributes in front of it, with some.
-///
-/// # Errors
-///
-/// Where there is no memory for them.
+// Puts attributes in front of a form, which has none there.
 #[tactic(auto, using(crate::proofs::FormFronts::fronts))]
-pub fn with_attributes<E: Drop, R: Maker<E>>(
+fn put_front<E: Drop, R: Maker<E>>(
     _below: &R,
     front: Vec<Attribute<E>>,
-    mut form: Expr<E>,
-) -> Result<Expr<E>, AllocError>
+    form: &mut Expr<E>,
+) -> Result<(), AllocError>
     requires none_inside { inner_of front.items ≡ [] }
-    requires bare { is_bare (views.expr R.view form) ≡ true }
-    ensures { IfOk result (λ x. views.expr R.view x
-        ≡ behind_outer (turns (attribute R.view) (outer front.items)) (views.expr R.view form)) }
+    requires bare { is_bare (views.expr R.view form.old) ≡ true }
+    ensures { IfOk result (λ _. views.expr R.view form.new
+        ≡ behind_outer (turns (attribute R.view) (outer front.items)) (views.expr R.view form.old)) }
 {
     fronted!(
         form,
@@ -49,4 +45,23 @@ pub fn with_attributes<E: Drop, R: Maker<E>>(
         Group If Index Infer Let Lit Loop Macro Match MethodCall Paren Path Range RawAddr Reference
         Repeat Return Struct Try TryBlock Tuple Unary Unsafe While Yield
     )
+}
+
+/// The form, which has no attributes in front of it, with some.
+///
+/// # Errors
+///
+/// Where there is no memory for them.
+pub fn with_attributes<E: Drop, R: Maker<E>>(
+    below: &R,
+    front: Vec<Attribute<E>>,
+    mut form: Expr<E>,
+) -> Result<Expr<E>, AllocError>
+    requires none_inside { inner_of front.items ≡ [] }
+    requires bare { is_bare (views.expr R.view form) ≡ true }
+    ensures { IfOk result (λ x. views.expr R.view x
+        ≡ behind_outer (turns (attribute R.view) (outer front.items)) (views.expr R.view form)) }
+{
+    put_front(below, front, &mut form)?;
+    Ok(form)
 }

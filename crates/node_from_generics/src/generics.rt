@@ -98,7 +98,7 @@ fn const_value<E: Drop, R: Reader<E>>(below: &R, tree: &Tree<'_>) -> Result<E, A
 }
 
 // The same with the `=` before it, if there is one.
-#[tactic(auto, using(crate::proofs::Defaults::defaults), unfolding(syn_grammar::specs::Table::table, syn_grammar::specs::Name::same_part, syn_grammar::specs::Kept::held, syn_kinds::specs::Table::marks, syn_kinds::specs::Table::sign, syn_kinds::specs::Table::word))]
+#[tactic(auto, using(crate::proofs::Defaults::defaults), unfolding(syn_kinds::specs::Table::marks, syn_kinds::specs::Table::sign))]
 fn const_default<E: Drop, R: Reader<E>>(
     below: &R,
     tree: &Tree<'_>,

@@ -5,12 +5,14 @@ use Rattle.std.proofs.lemmas.Bool.{false≢true}
 use Rattle.syn_grammar.specs.Gram.{ref}
 use Rattle.syn_grammar.specs.Kept.{held, kept}
 use Rattle.syn_grammar.specs.Kind as k
+use Rattle.syn_grammar.specs.Table.{table}
 use Rattle.syn_grammar.specs.Tree.{Tree, Node}
 use Rattle.node_paths.specs.declared.attribute.Attribute.{Attribute}
 use Rattle.node_shapes.specs.Shape.{IsShaped}
 use Rattle.node_views.specs.Paths.{attribute, outer}
 use Rattle.node_views.specs.Patterns.{behind_attributes, behind_turns}
 use Rattle.node_words.specs.Words.{turns}
+use Rattle.node_from_bodies.proofs.Nodes.{at_node}
 use Rattle.node_from_parts.proofs.InFront.{outer_in_front}
 use Rattle.node_from_patterns.specs.PatternForms.{is_one}
 
@@ -32,10 +34,11 @@ pub ruleset fronts = (put_before)
 
 -- what was read is one alternative
 
-pub one_kept : (x y : Tree) → IsShaped x (ref k.OnePattern) → y ≡ kept x → is_one y ≡ true
+one_inside : (y : Tree) → IsShaped y (table k.OnePattern) → is_one (kept (Node k.OnePattern y)) ≡ true
 unfolding held
-one_kept (Node k.OnePattern x) y h e = ap is_one e
-one_kept (Node _ x) y h e = cc (h.0)
-one_kept _ y h e = absurd h
+one_inside y h = refl
+
+pub one_kept : (x y : Tree) → IsShaped x (ref k.OnePattern) → y ≡ kept x → is_one y ≡ true
+one_kept x y h e = ap is_one e ∙ at_node k.OnePattern (λ w. is_one (kept w) ≡ true) x h one_inside
 
 pub ruleset attributed = (one_kept)

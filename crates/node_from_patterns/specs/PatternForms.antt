@@ -3,8 +3,8 @@ use Rattle.std.specs.Prelude.{◌≡◌, Bool, true, false}
 use Rattle.syn_grammar.specs.Gram.{Gram, ref}
 use Rattle.syn_grammar.specs.Kind as k
 use Rattle.syn_grammar.specs.Patterns.{is_rest}
-use Rattle.syn_grammar.specs.Say.{◌▸◌, when◌read◌else◌, at, ident, in_parentheses, keyword, many_to_end, marks, optional}
-use Rattle.syn_grammar.specs.Say.{sign}
+use Rattle.syn_grammar.specs.Say.{◌▸◌, when◌read◌else◌, at, ident, in_parentheses, keyword, many_to_end, marks}
+use Rattle.syn_grammar.specs.Say.{optional, sign}
 use Rattle.syn_grammar.specs.Tree as t
 use Rattle.syn_grammar.specs.Tree.{Tree}
 use Rattle.node_words.specs.Words.{enclosed, judged}

@@ -96,29 +96,29 @@ pub fn pattern<E: Drop, R: Maker<E>>(below: &R, tree: &Tree<'_>) -> Result<Pat<E
     }
 }
 
-// The pattern of one of those kinds, with attributes in front of its own.
+// Attributes in front of those of a pattern that is one of these.
 macro_rules! fronted {
-    ($pattern:expr, $front:expr, $($variant:ident)*) => {
+    ($pattern:ident, $front:ident, $($variant:ident)*) => {
         match $pattern {
-            $(Pat::$variant(mut node) => {
+            $(Pat::$variant(node) => {
                 put_in_front($front, &mut node.attrs)?;
-                Ok(Pat::$variant(node))
+                Ok(())
             })*
             Pat::Type(_) => unreachable!(),
         }
     };
 }
 
-// The pattern, which is one alternative, with attributes in front.
+// Puts attributes in front of a pattern that is one alternative.
 #[tactic(auto, using(crate::proofs::Fronts::fronts))]
-fn with_attributes<E: Drop, R: Maker<E>>(
+fn put_front<E: Drop, R: Maker<E>>(
     _below: &R,
     front: Vec<Attribute<E>>,
-    pattern: Pat<E>,
-) -> Result<Pat<E>, AllocError>
-    requires { is_one (views.pat R.view pattern) ≡ true }
-    ensures { IfOk result (λ x. views.pat R.view x
-        ≡ views.behind_attributes R.view front.items (views.pat R.view pattern)) }
+    pattern: &mut Pat<E>,
+) -> Result<(), AllocError>
+    requires { is_one (views.pat R.view pattern.old) ≡ true }
+    ensures { IfOk result (λ _. views.pat R.view pattern.new
+        ≡ views.behind_attributes R.view front.items (views.pat R.view pattern.old)) }
 {
     fronted!(
         pattern,
@@ -144,6 +144,7 @@ pub fn attributed_pattern<E: Drop, R: Maker<E>>(
     ensures { IfOk result (λ x. views.pat R.view x
         ≡ views.behind_attributes R.view attrs.items (kept tree.now)) }
 {
-    let pattern = one_pattern(below, tree)?;
-    with_attributes(below, attrs, pattern)
+    let mut pattern = one_pattern(below, tree)?;
+    put_front(below, attrs, &mut pattern)?;
+    Ok(pattern)
 }

@@ -29,6 +29,7 @@ use Rattle.node_take.specs.declared.form.Between.TheVariants as betweens
 use Rattle.node_views.specs.Statements as views
 use Rattle.node_views.specs.Statements.{behind_outer, lone_or, semicolon}
 use Rattle.node_words.specs.Words.{alternative, last, mark, optional, raw, ◌▸◌}
+use Rattle.node_from_bodies.proofs.Nodes.{at_node}
 use Rattle.node_from_bodies.specs.Operands.{is_range}
 use Rattle.node_from_statements.specs.Given.{given_form, goes_left, is_formed}
 use Rattle.node_from_statements.specs.StatementParts.{an_expression as expression_entry}
@@ -228,13 +229,14 @@ other_statement (Node OuterAttributes End) y s h e = second (is_macro y && is_th
 other_statement (Node OuterAttributes (Again a b)) y s h e = second (is_macro y && is_there s) _ _ e
 other_statement _ y s h e = absurd h
 
-has_attributes : (a : Tree) → IsShaped a (ref OuterAttributes) → HasAttributes (kept a)
+attributes_inside : (y : Tree) → IsShaped y (table OuterAttributes) → HasAttributes (kept (Node OuterAttributes y))
 unfolding held table
-has_attributes (Node OuterAttributes End) h = tt
-has_attributes (Node OuterAttributes (Again a b)) h = tt
-has_attributes (Node OuterAttributes _) h = absurd h.1
-has_attributes (Node _ x) h = cc (h.0)
-has_attributes _ h = absurd h
+attributes_inside End h = tt
+attributes_inside (Again a b) h = tt
+attributes_inside _ h = absurd h
+
+has_attributes : (a : Tree) → IsShaped a (ref OuterAttributes) → HasAttributes (kept a)
+has_attributes a h = at_node OuterAttributes (λ w. HasAttributes (kept w)) a h attributes_inside
 
 -- a statement's parts
 
@@ -271,12 +273,17 @@ front_shaped : (x a w s : Tree) → IsShaped x expression_entry
 front_shaped x a w s h e = (subst (λ y. IsShaped y expression_entry) e h).0.1
 
 -- none begin behind them
+begin_inside : (w s y : Tree) → IsShaped y (table OuterAttributes)
+    → IsShaped (with_names the_attributes the_expression (Node OuterAttributes y)
+    (Node (Expression InStatement) (Whole w)) s) expression_entry → begins_attributed w ≡ false
+begin_inside w s y g h = h.2
+
 none_begin : (a w s : Tree) → IsShaped a (ref OuterAttributes)
     → IsShaped (with_names the_attributes the_expression a (Node (Expression InStatement) (Whole w)) s) expression_entry
     → begins_attributed w ≡ false
-none_begin (Node OuterAttributes b) w s g h = h.2
-none_begin (Node _ b) w s g h = cc (g.0)
-none_begin _ w s g h = absurd g
+none_begin a w s g =
+    at_node OuterAttributes (λ u. IsShaped (with_names the_attributes the_expression u
+    (Node (Expression InStatement) (Whole w)) s) expression_entry → begins_attributed w ≡ false) a g (begin_inside w s)
 
 pub begins_none : (x u v s a i z w : Tree) → IsCalled u a → IsCalled v i → IsShaped x expression_entry
     → x ≡ Pair u (Pair v s) → i ≡ Node (Expression InStatement) z → z ≡ Whole w → begins_attributed w ≡ false

@@ -1,7 +1,7 @@
 -- Variables: their patterns, and the values before else.
 use Rattle.std.specs.Prelude.{◌≡◌, ℕ, Bool, true, false, not, ◌&&◌, List, [], Option, Some, None, cond, refl}
 use Rattle.std.specs.declared.boxed.Box.{Box}
-use Rattle.std.proofs.Common.{ap, sym, ◌∙◌}
+use Rattle.std.proofs.Common.{ap, subst, sym, ◌∙◌}
 use Rattle.std.proofs.lemmas.Bool.{false≢true}
 use Rattle.syn_grammar.specs.Gram.{Keep, mark, ref, word}
 use Rattle.syn_grammar.specs.Kept.{held, kept}
@@ -20,15 +20,19 @@ use Rattle.node_paths.specs.declared.attribute.Attribute.{Attribute}
 use Rattle.node_views.specs.Paths.{outer_attributes}
 use Rattle.node_views.specs.Statements.{closed, diverge, in_parens, let_pattern, let_value}
 use Rattle.node_words.specs.Words.{absent, expression, optional}
+use Rattle.node_from_bodies.proofs.Nodes.{at_node}
 use Rattle.node_from_statements.specs.StatementParts.{else_part, initial, typed}
 
 -- a pattern without a type
 
-pub untyped : (x y : Tree) → IsShaped x (ref k.OnePattern) → let_pattern (kept x) y ≡ Pair (kept x) (Pair absent y)
+untyped_inside : (y z : Tree) → IsShaped z (table k.OnePattern)
+    → let_pattern (kept (Node k.OnePattern z)) y ≡ Pair (kept (Node k.OnePattern z)) (Pair absent y)
 unfolding held
-untyped (Node k.OnePattern x) y h = refl
-untyped (Node _ x) y h = cc (h.0)
-untyped _ y h = absurd h
+untyped_inside y z h = refl
+
+pub untyped : (x y : Tree) → IsShaped x (ref k.OnePattern) → let_pattern (kept x) y ≡ Pair (kept x) (Pair absent y)
+untyped x y h =
+    at_node k.OnePattern (λ w. let_pattern (kept w) y ≡ Pair (kept w) (Pair absent y)) x h (untyped_inside y)
 
 -- one with a type
 
@@ -70,7 +74,8 @@ or_none None = refl
 or_none (Some x) = refl
 
 found_in_value : (n : Part) (l p y i s : Tree) → same_part the_type n ≡ false
-    → IsShaped (Pair l (Pair p (Pair y (Pair i s)))) let_form → found n (Pair l (Pair p (Pair y (Pair i s)))) ≡ found n i
+    → IsShaped (Pair l (Pair p (Pair y (Pair i s)))) let_form
+    → found n (Pair l (Pair p (Pair y (Pair i s)))) ≡ found n i
 found_in_value n l p y i s e h =
     ap (λ o. or_else o (or_else (found n p) (or_else (found n y) (or_else (found n i) (found n s)))))
     (word_without n _ l h.0)
@@ -119,18 +124,22 @@ else_stands y (First _) h e = absurd h
 else_stands y (Second w) h e = cc e
 else_stands y _ h e = absurd h
 
+value_inside : (y : Tree) → IsShaped y (table (k.Expression k.Plain))
+    → (x : Tree) × AreForms x × (Node (k.Expression k.Plain) y ≡ Node (k.Expression k.Plain) (Whole x))
+unfolding table
+value_inside (Whole x) h = (x, h, refl)
+value_inside _ h = absurd h
+
 value_form : (v : Tree) → IsShaped v (ref (k.Expression k.Plain))
     → (x : Tree) × AreForms x × (v ≡ Node (k.Expression k.Plain) (Whole x))
-unfolding table
-value_form (Node (k.Expression k.Plain) (Whole x)) h = (x, h.1, refl)
-value_form (Node (k.Expression k.Plain) _) h = absurd h.1
-value_form (Node _ x) h = cc (h.0)
-value_form _ h = absurd h
+value_form v h =
+    at_node (k.Expression k.Plain) (λ w. (x : Tree) × AreForms x × (w ≡ Node (k.Expression k.Plain) (Whole x)))
+    v h value_inside
 
 closed_open : (x : Tree) → ends_in_braces (flat x) ≡ false → closed x ≡ x
 closed_open x e = ap (λ b. cond b (in_parens x) x) e
 
-pub value_is : {E A : Type 0} (f : E → Tree) (d : Option (Keyword 12 × Box E A)) (y m v o : Tree)
+value_is : {E A : Type 0} (f : E → Tree) (d : Option (Keyword 12 × Box E A)) (y m v o : Tree)
     → IsShaped (First (Pair m (Pair (Called the_value v) o))) initial
     → is_let (First (Pair m (Pair (Called the_value v) o))) ≡ true → expression y ≡ kept v
     → optional (diverge f) d ≡ kept o → expression (let_value d y) ≡ kept v
@@ -145,4 +154,15 @@ value_is f (Some d) y m v o h c e p =
     let w : y ≡ kept q.0 = cc (e ∙ ap kept q.2) in
     ap expression (closed_open y (ap (λ u. ends_in_braces (flat u)) w ∙ open_kept q.0 q.1 s)) ∙ e
 
-pub ruleset values = (value_is)
+-- the same of a tree, of its parts
+pub value_held : {E A : Type 0} (f : E → Tree) (d : Option (Keyword 12 × Box E A)) (y x b m w v o : Tree)
+    → x ≡ First b → b ≡ Pair m (Pair w o) → ((n : Part) × (w ≡ Called n v)) → IsShaped x initial → is_let x ≡ true
+    → expression y ≡ kept v → optional (diverge f) d ≡ kept o → expression (let_value d y) ≡ kept v
+value_held f d y x b m w v o e g q h c p r =
+    let s : x ≡ First (Pair m (Pair (Called q.0 v) o)) = e ∙ ap First (g ∙ ap (λ z. Pair m (Pair z o)) q.1) in
+    let i = subst (λ z. IsShaped z initial) s h in
+    let j : x ≡ First (Pair m (Pair (Called the_value v) o)) =
+    s ∙ ap (λ n. First (Pair m (Pair (Called n v) o))) i.1.0.0 in
+    value_is f d y m v o (subst (λ z. IsShaped z initial) j h) (subst (λ z. is_let z ≡ true) j c) p r
+
+pub ruleset values = (value_held)

@@ -10,9 +10,11 @@ use Rattle.syn_grammar.specs.Part.{choice}
 use Rattle.syn_grammar.specs.Table.{table}
 use Rattle.syn_grammar.specs.Tree.{Tree, ALiteral, Back, Called, First, Node, Pair, Second, Verbatim}
 use Rattle.syn_grammar.specs.Words.{before_dot, behind_dots, texts_of}
+use Rattle.node_shapes.specs.Forms as shapes
 use Rattle.node_shapes.specs.Forms.{is_named_item}
 use Rattle.node_shapes.specs.Shape.{IsShaped}
 use Rattle.node_views.specs.Statements.{is_named, is_named_macro, item_statement}
+use Rattle.node_from_bodies.proofs.Nodes.{at_node}
 
 -- a form with an operand before it is kept as one
 
@@ -48,7 +50,7 @@ choice_kept _ = refl
 
 third : (p : Place) (x b w y : Tree)
     → is_named (Node (ItemMacro p) (Pair (kept x) (Pair (kept b) (Pair (kept w) (kept y)))))
-    ≡ is_named (Node (ItemMacro p) (Pair x (Pair b (Pair w y))))
+    ≡ shapes.is_named (Node (ItemMacro p) (Pair x (Pair b (Pair w y))))
 third p x b (Back l i z) y =
     ap (λ u. is_named (Node (ItemMacro p) (Pair (kept x) (Pair (kept b) (Pair u (kept y))))))
     (dotted_back (kept l) i (kept z)).3
@@ -56,42 +58,43 @@ third p x b _ y = refl
 
 second : (p : Place) (x b w : Tree)
     → is_named (Node (ItemMacro p) (Pair (kept x) (Pair (kept b) (kept w))))
-    ≡ is_named (Node (ItemMacro p) (Pair x (Pair b w)))
+    ≡ shapes.is_named (Node (ItemMacro p) (Pair x (Pair b w)))
 second p x b (Pair w y) = third p x b w y
 second p x b (Back l i z) =
     ap (λ u. is_named (Node (ItemMacro p) (Pair (kept x) (Pair (kept b) u)))) (dotted_back (kept l) i (kept z)).3
 second p x b _ = refl
 
 first : (p : Place) (x w : Tree)
-    → is_named (Node (ItemMacro p) (Pair (kept x) (kept w))) ≡ is_named (Node (ItemMacro p) (Pair x w))
+    → is_named (Node (ItemMacro p) (Pair (kept x) (kept w))) ≡ shapes.is_named (Node (ItemMacro p) (Pair x w))
 first p x (Pair b w) = second p x b w
 first p x (Back l i z) =
     ap (λ u. is_named (Node (ItemMacro p) (Pair (kept x) u))) (dotted_back (kept l) i (kept z)).3
 first p x _ = refl
 
-inside : (p : Place) (x : Tree) → is_named (Node (ItemMacro p) (kept x)) ≡ is_named (Node (ItemMacro p) x)
+inside : (p : Place) (x : Tree) → is_named (Node (ItemMacro p) (kept x)) ≡ shapes.is_named (Node (ItemMacro p) x)
 inside p (Pair x w) = first p x w
 inside p (Back l i z) = ap (λ u. is_named (Node (ItemMacro p) u)) (dotted_back (kept l) i (kept z)).3
 inside p _ = refl
 
-named_kept : (x : Tree) → is_named (kept x) ≡ is_named x
+named_kept : (x : Tree) → is_named (kept x) ≡ shapes.is_named x
 unfolding held
 named_kept (Node (ItemMacro p) x) = inside p x
 named_kept (Node i x) = refl
 named_kept (Back l i y) = ap is_named (dotted_back (kept l) i (kept y)).3
 named_kept _ = refl
 
-item_named : (x : Tree) → IsShaped x (ref k.AnItem) → is_named_macro (kept x) ≡ is_named_item x
+item_inside : (y : Tree) → IsShaped y (table k.AnItem)
+    → is_named_macro (kept (Node k.AnItem y)) ≡ is_named_item (Node k.AnItem y)
 unfolding held table
-item_named (Node k.AnItem (First (Pair a (Pair v (Called m x))))) h =
-    ap is_named (choice_kept x) ∙ named_kept (choice x)
-item_named (Node k.AnItem (First (Pair a (Pair v _)))) h = absurd h.1.1.1.1
-item_named (Node k.AnItem (First (Pair a _))) h = absurd h.1.1.1
-item_named (Node k.AnItem (First _)) h = absurd h.1.1
-item_named (Node k.AnItem (Verbatim x)) h = refl
-item_named (Node k.AnItem _) h = absurd h.1
-item_named (Node _ x) h = cc (h.0)
-item_named _ h = absurd h
+item_inside (First (Pair a (Pair v (Called m x)))) h = ap is_named (choice_kept x) ∙ named_kept (choice x)
+item_inside (First (Pair a (Pair v _))) h = absurd h.1.1.1
+item_inside (First (Pair a _)) h = absurd h.1.1
+item_inside (First _) h = absurd h.1
+item_inside (Verbatim x) h = refl
+item_inside _ h = absurd h
+
+item_named : (x : Tree) → IsShaped x (ref k.AnItem) → is_named_macro (kept x) ≡ is_named_item x
+item_named x h = at_node k.AnItem (λ w. is_named_macro (kept w) ≡ is_named_item w) x h item_inside
 
 by_name : (b : Bool) (x y : Tree) → b ≡ true → cond b x y ≡ x
 by_name true x y e = refl

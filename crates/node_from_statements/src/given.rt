@@ -47,7 +47,7 @@ fn kept_here<E: Drop, R: Maker<E>>(
 /// # Errors
 ///
 /// Where there is no memory for it.
-#[tactic(auto, using(crate::proofs::GivenForms::belongs), unfolding(syn_grammar::specs::Forms::level, syn_grammar::specs::Table::table))]
+#[tactic(auto, using(crate::proofs::GivenForms::belongs), unfolding(syn_grammar::specs::Forms::level))]
 pub fn attributed_form<E: Drop, R: Maker<E>>(
     below: &R,
     attrs: Vec<Attribute<E>>,
