@@ -64,8 +64,8 @@ fn no_word<const K: usize>(
     word: Option<Keyword<K>>,
     words: &'static str,
 ) -> Result<()>
-    ensures empty { OnOk result (word ≡ None) }
-    ensures refused { IfErr result (λ f. IsRefusal (word_notes words.now word) f) }
+    ensures empty { OnOk result (word.entry ≡ None) }
+    ensures refused { IfErr result (λ f. IsRefusal (word_notes words.now word.entry) f) }
 {
     match word {
         Some(word) => Err(unexpected(alloc, word.span(), words)),
