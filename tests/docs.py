@@ -49,17 +49,17 @@ def long_lines(page, text):
 
 
 def blocks(text):
-    """Paragraphs, items of lists and cells of tables, each as one line."""
+    """Paragraphs, items of lists and cells of tables, each as one line, but for what is quoted word for word."""
     block = []
     for line in without_code(text).split('\n'):
-        line = line.strip()
+        line = '' if line.startswith('>') else line.strip()
         if not line or line[0] in '|#' or re.match(r'([-*]|\d+\.) ', line):
             yield ' '.join(block)
             block = []
         if line.startswith('|'):
             yield from re.split(r'(?<!\\)\|', line)
         else:
-            block.append(line.lstrip('>').strip())
+            block.append(line)
     yield ' '.join(block)
 
 
