@@ -17,9 +17,8 @@ use Rattle.syn_grammar.specs.Parens.{stands_in, follow}
 use Rattle.syn_grammar.specs.Normal.{normal}
 use Rattle.syn_grammar.specs.Shape.{lowest, least, cap, is_open}
 
--- What it ends with, if a left operand stands before that: a cast, and whether its type ends in a name, or a field with
--- a
--- name.
+-- What it ends with, if a left operand stands before that: a cast, and whether its type ends in a name, or a field
+-- with a name.
 pub data Last : Type 0 where
   other : Last
   a_cast : (named : Bool) → Last

@@ -31,15 +31,13 @@ pub fn one_pass()
 {}
 
 /// The operands of a normal form meet the conditions of levels, of trees that were built by hand too: what stands left
-/// of
-/// a form may stand there and goes on with nothing, and what stands right of it is of the levels that it takes.
+/// of a form may stand there and goes on with nothing, and what stands right of it is of the levels that it takes.
 pub fn levels_met()
     ensures { (p : Position) (ts : List Token) (x : Tree) → Meets p (formed p ts x) }
 {}
 
 /// What binds an expression is in two parts: the operands meet the conditions of levels, and the own parts are read
-/// where
-/// they stand; and before what follows no operand on the right edge goes on.
+/// where they stand; and before what follows no operand on the right edge goes on.
 pub fn in_parts()
     ensures apart { (p : Position) (x : Tree) (rest : List Token) → Bound p x rest
         → Meets p x × Spelled p x rest × NoneGoesOn p x rest }

@@ -26,9 +26,8 @@ pub fn optional<'t, 'a>(tree: &'t Tree<'a>) -> Option<&'t Tree<'a>>
     }
 }
 
-/// Of so many alternatives and one more, of which the last is no choice again, which one was chosen, counted
-/// from 0, and
-/// what it is.
+/// Of so many alternatives and one more, of which the last is no choice again, which one was chosen, counted from 0,
+/// and what it is.
 #[tactic(auto, using(crate::proofs::Takes::takes, crate::proofs::Choices::chosen))]
 pub fn alternative<'t, 'a>(count: usize, tree: &'t Tree<'a>) -> (usize, &'t Tree<'a>)
     requires { ((a : g.Gram) × (is_choice count a ≡ true) × IsShaped tree.now a) }

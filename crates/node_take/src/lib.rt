@@ -1,6 +1,5 @@
-//! What a tree is made of, where it has the shape of an entry. None answers that a tree has another shape,
-//! since that is
-//! asked of the caller; what was read has the shape of its entry.
+//! What a tree is made of, where it has the shape of an entry. None answers that a tree has another shape, since that
+//! is asked of the caller; what was read has the shape of its entry.
 //!
 //! - `part`: the parts of sequences, nodes, groups, named parts and expressions.
 //! - `choice`: what may be missing, and which alternative was chosen.

@@ -11,7 +11,7 @@ use Rattle.syn_pat.specs.declared.pat_type.PatType.{PatType}
 use Rattle.syn_grammar.specs.Kind as k
 use Rattle.syn_grammar.specs.Name as n
 use Rattle.syn_grammar.specs.Tree as t
-use Rattle.syn_grammar.specs.Tree.{Tree}
+use Rattle.syn_grammar.specs.Tree.{◌▸◌, ◌∶◌, Tree}
 use Rattle.syn_item.specs.ItemParts.{named_tree, safety_tree}
 use Rattle.syn_item.specs.declared.function.FnArg.{FnArg}
 use Rattle.syn_item.specs.declared.function.ItemFn.{ItemFn}
@@ -99,10 +99,11 @@ IsSafety safeties.Default = Unit {0}
 -- a signature, by the place where it stands, the words before fn each if it stands there:
 -- const async unsafe extern "C" fn a<T>(b: B) -> C where ..
 abbrev pub signature : Signature → Tree
-signature x = t.Node (k.Signature (place_of x.place)) (t.Pair (optional_tree word_tree x.constness) (t.Pair
-    (optional_tree word_tree x.asyncness) (t.Pair (safety_is x.safety) (t.Pair (optional_tree node_tree x.abi) (t.Pair
-    (word_tree x.fn_token) (t.Pair (named_tree x.ident) (t.Pair (t.Called n.the_generics x.generics.now)
-    (t.Pair x.inputs.now (t.Pair x.output.now (t.Called n.the_where x.where_clause.now))))))))))
+signature x =
+    t.Node (k.Signature (place_of x.place))
+    (optional_tree word_tree x.constness ▸ optional_tree word_tree x.asyncness ▸ safety_is x.safety
+    ▸ optional_tree node_tree x.abi ▸ word_tree x.fn_token ▸ named_tree x.ident ▸ n.the_generics ∶ x.generics.now
+    ▸ x.inputs.now ▸ x.output.now ▸ n.the_where ∶ x.where_clause.now)
 
 -- a function, in its place, of this signature, and of what stands behind that
 abbrev pub function_tree : Place → Bor Tree → Tree → Tree
