@@ -8,7 +8,8 @@ use Rattle.proc_macro2.specs.Flat.{spanned}
 use Rattle.syn_kinds.specs.Table.{marks}
 use Rattle.syn_kinds.specs.Values.{marks_tokens, spacing_before}
 use Rattle.syn_lists.specs.Lists.{IsSeparated}
-use Rattle.syn_lists.specs.Put.{put_list}
+use Rattle.syn_lists.specs.Put.{PutsList, put_list}
+use Rattle.syn_lists.proofs.Puts.{put_once}
 use Rattle.syn_buffer.specs.Leaves.{ident_token}
 use Rattle.syn_buffer.specs.Seen.{seen}
 use Rattle.syn_lists.specs.ReadLists.{ReadsList, ReadsPairs, StopsList}
@@ -63,9 +64,16 @@ module _ {P : Type 0} (places : P → List Span) (kind width : ℕ) where
   length_places [] = refl
   length_places (p ∷ ps) = ap (λ n. suc n) (length_places ps)
 
-  seen_put : (vs : List Ident) (ps : List P) → seen (put_list put_name (λ p. put_marks kind width (places p)) vs ps [])
-      ≡ printed kind width vs (map places ps)
-  seen_put vs ps = ap seen (put_places vs ps []) ∙ seen_printed vs (map places ps)
+  -- these tokens are printed for the list
+  abbrev Prints : List Ident → List P → List Spanned → Type 0
+  Prints vs ps ts = PutsList (λ v old new. new ≡ put_name v old)
+      (λ p old new. new ≡ put_marks kind width (places p) old) vs ps [] ts
+
+  seen_put : (vs : List Ident) (ps : List P) (ts : List Spanned) → Prints vs ps ts
+      → seen ts ≡ printed kind width vs (map places ps)
+  seen_put vs ps ts h =
+      ap seen (put_once put_name (λ p. put_marks kind width (places p)) vs ps [] ts h ∙ put_places vs ps [])
+      ∙ seen_printed vs (map places ps)
 
   even_places : (vs : List Ident) (ps : List P) → IsSeparated vs ps → IsSeparated vs (map places ps)
   even_places vs ps s = subst (λ n. (n ≤ length vs) × (length vs ≤ n + 1)) (sym (length_places ps)) s
@@ -73,12 +81,12 @@ module _ {P : Type 0} (places : P → List Span) (kind width : ℕ) where
   -- what is read of a printed list is that list
   pub reread : (vs ws : List Ident) (ps qs : List P) → 0 < width → ArePlaces kind width (map places ps)
       → IsSeparated vs ps
-      → ReadsList reads_name (λ xs p ys. reads_marks kind width xs (places p) ys)
-      (seen (put_list put_name (λ p. put_marks kind width (places p)) vs ps [])) ws qs []
+      → ((ts : List Spanned) × Prints vs ps ts
+      × ReadsList reads_name (λ xs p ys. reads_marks kind width xs (places p) ys) (seen ts) ws qs [])
       → (map ident_token ws ≡ map ident_token vs) × (map places qs ≡ map places ps)
-  reread vs ws ps qs l a s h =
+  reread vs ws ps qs l a s (ts, is, h) =
       printed_once kind width vs ws (map places ps) (map places qs) l a (even_places vs ps s)
-      (subst (λ ts. IsReadFrom kind width ts ws (map places qs)) (seen_put vs ps) (read_places _ ws qs h))
+      (subst (λ us. IsReadFrom kind width us ws (map places qs)) (seen_put vs ps ts is) (read_places _ ws qs h))
 
   stops_places : (ts : List Spanned)
       → StopsList reads_name (λ xs p ys. reads_marks kind width xs (places p) ys) no_name (no_marks kind width) ts
@@ -88,8 +96,9 @@ module _ {P : Type 0} (places : P → List Span) (kind width : ℕ) where
   -- and it is not refused
   pub not_refused : (vs : List Ident) (ps : List P) → AreNames vs → ArePlaces kind width (map places ps)
       → IsSeparated vs ps
-      → StopsList reads_name (λ xs p ys. reads_marks kind width xs (places p) ys) no_name (no_marks kind width)
-      (seen (put_list put_name (λ p. put_marks kind width (places p)) vs ps [])) → ⊥
-  not_refused vs ps n a s h =
+      → ((ts : List Spanned) × Prints vs ps ts
+      × StopsList reads_name (λ xs p ys. reads_marks kind width xs (places p) ys) no_name (no_marks kind width)
+      (seen ts)) → ⊥
+  not_refused vs ps n a s (ts, is, h) =
       never_refused kind width vs (map places ps) n a (even_places vs ps s)
-      (subst (λ ts. IsRefused kind width ts) (seen_put vs ps) (stops_places _ h))
+      (subst (λ us. IsRefused kind width us) (seen_put vs ps ts is) (stops_places _ h))

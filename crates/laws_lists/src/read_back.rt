@@ -1,14 +1,16 @@
 //! Lists that are printed and read back, by the calls themselves.
 
 ghost use Rattle.laws_lists.specs.ReadBack.{AreNames, ArePlaces};
-ghost use Rattle.std.specs.Prelude.{[], ◌≡◌, IfErr, IfOk, map};
+ghost use Rattle.proc_macro2.specs.Token.{Spanned};
+ghost use Rattle.std.specs.Prelude.{[], ◌≡◌, IfErr, IfOk, List, map};
 ghost use Rattle.syn_error.specs.Faults.{IsSyntax};
 ghost use Rattle.syn_buffer.specs.Leaves.{ident_token};
 ghost use Rattle.syn_buffer.specs.Seen.{seen};
 ghost use Rattle.syn_lists.specs.ReadLists.{ReadsList, StopsList};
 ghost use Rattle.syn_lists.specs.Lists.{IsSeparated, separators, values};
-ghost use Rattle.syn_lists.specs.Put.{put_list};
+ghost use Rattle.syn_lists.specs.Put.{PutsList};
 
+use proc_macro2::tree::TokenStream;
 use rust_leaf::ident::Ident;
 use std::alloc::Global;
 use syn_buffer::buffer::TokenBuffer;
@@ -25,13 +27,28 @@ pub fn reread<T: Parse + ToTokens, P: Parse + ToTokens>(
     alloc: Global,
     list: &Punctuated<T, P>,
 ) -> Result<Punctuated<T, P>, ParseFault>
-    ensures read { IfOk result (λ back. ReadsList T.reads P.reads
-        (seen (put_list T.put P.put (values list.now) (separators list.now) [])) (values back) (separators back) []) }
-    ensures none { IfErr result (λ e. IsSyntax e → StopsList T.reads P.reads T.refuses P.refuses
-        (seen (put_list T.put P.put (values list.now) (separators list.now) []))) }
+    ensures read { IfOk result (λ back. (printed : List Spanned)
+        × PutsList T.puts P.puts (values list.now) (separators list.now) [] printed
+        × ReadsList T.reads P.reads (seen printed) (values back) (separators back) []) }
+    ensures none { IfErr result (λ e. IsSyntax e → ((printed : List Spanned)
+        × PutsList T.puts P.puts (values list.now) (separators list.now) [] printed
+        × StopsList T.reads P.reads T.refuses P.refuses (seen printed))) }
 {
     let tokens = list.to_token_stream(alloc)?;
-    let buffer = TokenBuffer::new2(alloc, &tokens, 1)?;
+    read_tokens(alloc, &tokens)
+}
+
+// Reads a list of the tokens to their end.
+fn read_tokens<T: Parse, P: Parse>(
+    alloc: Global,
+    tokens: &TokenStream,
+) -> Result<Punctuated<T, P>, ParseFault>
+    ensures read { IfOk result (λ back.
+        ReadsList T.reads P.reads (seen tokens.now) (values back) (separators back) []) }
+    ensures none { IfErr result (λ e. IsSyntax e
+        → StopsList T.reads P.reads T.refuses P.refuses (seen tokens.now)) }
+{
+    let buffer = TokenBuffer::new2(alloc, tokens, 1)?;
     let mut input = ParseBuffer::new(alloc, buffer.begin());
     Punctuated::parse_terminated(&mut input)
 }

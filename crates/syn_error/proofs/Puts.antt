@@ -1,14 +1,23 @@
 -- Prints of values one behind the other.
-use Rattle.std.proofs.Common.{◌≡◌, ℕ, ◌+◌, ◌<◌, List, length, get_or, drop, sym, ap, ◌∙◌}
-use Rattle.std.proofs.lemmas.List.{at_drop_more}
-use Rattle.syn_error.specs.Tokens.{Put, put_all}
+use Rattle.std.proofs.Common.{◌≡◌, ℕ, ◌+◌, ◌<◌, ◌≤◌, List, length, get_or, drop, refl, sym, subst}
+use Rattle.std.proofs.lemmas.List.{drop_all, drop_more}
+use Rattle.syn_error.specs.Tokens.{Puts, PutsAll}
 use Rattle.proc_macro2.specs.Token.{Spanned}
 
--- one value more has been put
-pub put_more : {A : Type 0} (put : A → Put) (values : List A) (i : ℕ) (value : A) (old new all : List Spanned)
-    → value ≡ get_or values i value → i < length values → new ≡ put value old
-    → put_all put (drop i values) old ≡ all → put_all put (drop (i + 1) values) new ≡ all
-put_more {A = A} put values i value old new all is below is_put h =
-    ap (λ ts. put_all put (drop (i + 1) values) ts) is_put
-    ∙ ap (λ (v : A). put_all put (drop (i + 1) values) (put v old)) is
-    ∙ sym (at_drop_more (λ vs. put_all put vs old) values i value below) ∙ h
+-- What a print of the values from that place on makes of the tokens that stand there, a print of all of them makes of
+-- the first ones.
+module _ {A : Type 0} (puts : A → Puts) (values : List A) (first : List Spanned) where
+  abbrev GoesOn : ℕ → List Spanned → Type 0
+  GoesOn i tokens = (all : List Spanned) → PutsAll puts (drop i values) tokens all → PutsAll puts values first all
+
+  -- one value more has been put
+  pub put_more : (i : ℕ) (value : A) (old new : List Spanned) → value ≡ get_or values i value → i < length values
+      → puts value old new → GoesOn i old → GoesOn (i + 1) new
+  put_more i value old new is below put goes =
+      λ all h. goes all (subst (λ (vs : List A). PutsAll puts vs old all) (sym (drop_more values i value below))
+      (new, subst (λ (v : A). puts v old new) is put, h))
+
+  -- all have been put
+  pub put_done : (i : ℕ) (new : List Spanned) → length values ≤ i → GoesOn i new → PutsAll puts values first new
+  put_done i new past goes =
+      goes new (subst (λ (vs : List A). PutsAll puts vs new new) (sym (drop_all i values past)) refl)

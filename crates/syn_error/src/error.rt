@@ -1,6 +1,7 @@
 //! Syntax errors.
 
-ghost use Rattle.std.specs.Prelude.{[], ◌++◌, ◌∷◌, ◌≡◌, IfOk, OnErr, OnOk, Some, string_bytes};
+ghost use Rattle.std.specs.Prelude.{[], ◌++◌, ◌∷◌, ◌≡◌, IfOk, List, OnErr, OnOk, Some, string_bytes};
+ghost use Rattle.proc_macro2.specs.Token.{Spanned};
 ghost use Rattle.rust_map.specs.Faults.{error_message};
 ghost use Rattle.syn_error.specs.Notes.{Says, first_place, last_place, place_of, words_of};
 
@@ -80,8 +81,8 @@ impl Error {
         tokens: &T,
         message: M,
     ) -> Result<Error, AllocError>
-        ensures { let printed = T.put tokens.now [] in
-            IfOk result (λ e. Says (M.output message) (first_place printed) (last_place printed) e) }
+        ensures { IfOk result (λ e. (printed : List Spanned) × T.puts tokens.now [] printed
+            × Says (M.output message) (first_place printed) (last_place printed) e) }
     {
         let stream = tokens.to_token_stream(alloc)?;
         let words = message.to_string(alloc)?;

@@ -7,7 +7,7 @@ ghost use Rattle.proc_macro2.specs.Token.{Spanned};
 ghost use Rattle.proc_macro2.specs.declared.tree.TokenTree.TheVariants as tree;
 ghost use Rattle.std.specs.Prelude.{[], ◌++◌, ◌≡◌, IfOk, List, OnOk};
 ghost use Rattle.syn_error.specs.Front.{Keeps};
-ghost use Rattle.syn_error.specs.Tokens.{put_all, put_some};
+ghost use Rattle.syn_error.specs.Tokens.{PutsAll, PutsSome};
 
 use proc_macro2::tree::{Group, TokenStream, TokenTree};
 use rust_leaf::ident::Ident;
@@ -18,21 +18,22 @@ use try_clone::TryClone;
 
 /// What is printed as tokens.
 ///
-/// `put` gives the tokens that stand there behind a print in terms of those that stood there before it.
+/// `puts` says which tokens may stand there behind a print of the value, in terms of those that stood there before it.
 pub trait ToTokens {
-    ghost put: { Self → List Spanned → List Spanned };
+    /// A print of the value makes of the first tokens the second ones.
+    ghost puts: { Self → List Spanned → List Spanned → Type 0 };
 
     /// Adds the tokens of the value at the end.
     ///
     /// The error is that memory was refused. The old tokens stand in front then too, perhaps with some
     /// tokens of the value behind them.
     fn to_tokens(&self, tokens: &mut TokenStream) -> Result<(), AllocError>
-        ensures put { OnOk result (tokens.new ≡ put self.now tokens.old) }
+        ensures put { OnOk result (puts self.now tokens.old tokens.new) }
         ensures keeps { Keeps tokens.old tokens.new };
 
     /// The tokens of the value. The error is that memory was refused.
     fn to_token_stream(&self, alloc: Global) -> Result<TokenStream, AllocError>
-        ensures { IfOk result (λ stream. stream ≡ put self.now []) }
+        ensures { IfOk result (λ stream. puts self.now [] stream) }
     {
         let mut tokens = TokenStream::new(alloc);
         self.to_tokens(&mut tokens)?;
@@ -41,7 +42,7 @@ pub trait ToTokens {
 }
 
 impl ToTokens for TokenStream {
-    ghost put = { λ stream tokens. tokens ++ stream };
+    ghost puts = { λ stream old new. new ≡ old ++ stream };
 
     fn to_tokens(&self, tokens: &mut TokenStream) -> Result<(), AllocError> {
         tokens.push_stream(self.try_clone()?)
@@ -49,7 +50,7 @@ impl ToTokens for TokenStream {
 }
 
 impl ToTokens for TokenTree {
-    ghost put = { λ tree tokens. tokens ++ entered tree };
+    ghost puts = { λ tree old new. new ≡ old ++ entered tree };
 
     fn to_tokens(&self, tokens: &mut TokenStream) -> Result<(), AllocError> {
         tokens.push_tree(self.try_clone()?)
@@ -57,7 +58,7 @@ impl ToTokens for TokenTree {
 }
 
 impl ToTokens for Group {
-    ghost put = { λ group tokens. tokens ++ group_tokens group };
+    ghost puts = { λ group old new. new ≡ old ++ group_tokens group };
 
     fn to_tokens(&self, tokens: &mut TokenStream) -> Result<(), AllocError> {
         tokens.push_tree(TokenTree::Group(self.try_clone()?))
@@ -65,7 +66,7 @@ impl ToTokens for Group {
 }
 
 impl ToTokens for Ident {
-    ghost put = { λ ident tokens. tokens ++ tree_tokens (tree.Ident ident) };
+    ghost puts = { λ ident old new. new ≡ old ++ tree_tokens (tree.Ident ident) };
 
     fn to_tokens(&self, tokens: &mut TokenStream) -> Result<(), AllocError> {
         tokens.push_tree(TokenTree::Ident(self.try_clone()?))
@@ -73,7 +74,7 @@ impl ToTokens for Ident {
 }
 
 impl ToTokens for Punct {
-    ghost put = { λ punct tokens. tokens ++ tree_tokens (tree.Punct punct) };
+    ghost puts = { λ punct old new. new ≡ old ++ tree_tokens (tree.Punct punct) };
 
     fn to_tokens(&self, tokens: &mut TokenStream) -> Result<(), AllocError> {
         tokens.push_tree(TokenTree::Punct(*self))
@@ -81,7 +82,7 @@ impl ToTokens for Punct {
 }
 
 impl ToTokens for Literal {
-    ghost put = { λ literal tokens. tokens ++ entered (tree.Literal literal) };
+    ghost puts = { λ literal old new. new ≡ old ++ entered (tree.Literal literal) };
 
     fn to_tokens(&self, tokens: &mut TokenStream) -> Result<(), AllocError> {
         tokens.push_tree(TokenTree::Literal(self.try_clone()?))
@@ -89,7 +90,7 @@ impl ToTokens for Literal {
 }
 
 impl<T: ToTokens> ToTokens for &T {
-    ghost put = { λ value. T.put value.now };
+    ghost puts = { λ value. T.puts value.now };
 
     fn to_tokens(&self, tokens: &mut TokenStream) -> Result<(), AllocError> {
         (**self).to_tokens(tokens)
@@ -97,7 +98,7 @@ impl<T: ToTokens> ToTokens for &T {
 }
 
 impl<T: ToTokens> ToTokens for Box<T> {
-    ghost put = { λ value. T.put value.value };
+    ghost puts = { λ value. T.puts value.value };
 
     fn to_tokens(&self, tokens: &mut TokenStream) -> Result<(), AllocError> {
         (**self).to_tokens(tokens)
@@ -105,7 +106,7 @@ impl<T: ToTokens> ToTokens for Box<T> {
 }
 
 impl<T: ToTokens> ToTokens for Option<T> {
-    ghost put = { put_some T.put };
+    ghost puts = { PutsSome T.puts };
 
     fn to_tokens(&self, tokens: &mut TokenStream) -> Result<(), AllocError> {
         match self {
@@ -117,7 +118,7 @@ impl<T: ToTokens> ToTokens for Option<T> {
 
 #[tactic(auto, using(crate::proofs::Fronts::keeps_same, crate::proofs::Fronts::keeps_both))]
 impl<T: ToTokens> ToTokens for Vec<T> {
-    ghost put = { λ values. put_all T.put values.items };
+    ghost puts = { λ values. PutsAll T.puts values.items };
 
     fn to_tokens(&self, tokens: &mut TokenStream) -> Result<(), AllocError> {
         for value in self {

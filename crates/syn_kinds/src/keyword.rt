@@ -96,7 +96,7 @@ impl<const K: usize> Default for Keyword<K> {
 
 #[tactic(auto, using(crate::proofs::Rows::word_is_identifier))]
 impl<const K: usize> ToTokens for Keyword<K> {
-    ghost put = { λ keyword tokens. tokens ++ word_tokens (word K) keyword.span };
+    ghost puts = { λ keyword old new. new ≡ old ++ word_tokens (word K) keyword.span };
 
     fn to_tokens(&self, tokens: &mut TokenStream) -> Result<(), AllocError> {
         put_word(tokens, Keyword::<K>::word(), self.span)

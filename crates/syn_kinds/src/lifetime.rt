@@ -76,7 +76,7 @@ impl TryClone for Lifetime {
 
 #[tactic(auto, using(syn_error::proofs::Fronts::keeps_both), unfolding(rust_leaf::specs::Mark::is_mark))]
 impl ToTokens for Lifetime {
-    ghost put = { λ lifetime tokens. tokens ++ spanned (token.Punct 39 token.Joint) lifetime.apostrophe
+    ghost puts = { λ lifetime old new. new ≡ old ++ spanned (token.Punct 39 token.Joint) lifetime.apostrophe
         ∷ spanned (token.Ident (ident_text lifetime.ident)) (ident_span lifetime.ident) ∷ [] };
 
     fn to_tokens(&self, tokens: &mut TokenStream) -> Result<(), AllocError> {

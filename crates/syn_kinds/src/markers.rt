@@ -1,5 +1,6 @@
 //! Kinds that are no tokens.
 
+ghost use Rattle.std.specs.Prelude.{◌≡◌};
 ghost use Rattle.syn_error.specs.Front.{Keeps};
 
 use proc_macro2::tree::TokenStream;
@@ -21,7 +22,7 @@ pub struct Nothing;
 
 #[tactic(auto, using(syn_error::proofs::Fronts::keeps_same))]
 impl ToTokens for Nothing {
-    ghost put = { λ _ tokens. tokens };
+    ghost puts = { λ _ old new. new ≡ old };
 
     fn to_tokens(&self, _tokens: &mut TokenStream) -> Result<(), AllocError> {
         Ok(())

@@ -84,7 +84,7 @@ impl<const K: usize, const N: usize> Default for Punctuation<K, N> {
 
 #[tactic(auto, using(syn_error::proofs::Fronts::keeps_same, syn_error::proofs::Fronts::keeps_both))]
 impl<const K: usize, const N: usize> ToTokens for Punctuation<K, N> {
-    ghost put = { λ punctuation tokens. tokens ++ marks_tokens (marks K N) punctuation.spans };
+    ghost puts = { λ punctuation old new. new ≡ old ++ marks_tokens (marks K N) punctuation.spans };
 
     fn to_tokens(&self, tokens: &mut TokenStream) -> Result<(), AllocError> {
         for index in 0..N {

@@ -85,7 +85,7 @@ impl Default for Underscore {
 
 #[tactic(auto, using(crate::proofs::Rows::underscore_chars, crate::proofs::Rows::underscore_is_identifier))]
 impl ToTokens for Underscore {
-    ghost put = { λ underscore tokens. tokens ++ word_tokens (codes "_") underscore.span };
+    ghost puts = { λ underscore old new. new ≡ old ++ word_tokens (codes "_") underscore.span };
 
     fn to_tokens(&self, tokens: &mut TokenStream) -> Result<(), AllocError> {
         put_word(tokens, "_", self.span)

@@ -69,7 +69,7 @@ impl LitBool {
 
 #[tactic(auto, unfolding(syn_kinds::specs::Table::word))]
 impl ToTokens for LitBool {
-    ghost put = { λ literal tokens. tokens ++ word_tokens (bool_text literal.value) literal.span };
+    ghost puts = { λ literal old new. new ≡ old ++ word_tokens (bool_text literal.value) literal.span };
 
     fn to_tokens(&self, tokens: &mut TokenStream) -> Result<(), AllocError> {
         if self.value {

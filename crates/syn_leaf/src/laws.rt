@@ -119,24 +119,23 @@ pub fn hashed_alike(index: &Index, literal: &LitBool)
 
 /// A literal of a class that was read is printed as the token that it was read from, its span included.
 pub fn kept_of_class<C: LitClass>(literal: &LitToken<C>)
-    ensures { (ts us : List Spanned) → ⟦<LitToken<C> as Parse>⟧.reads ts literal.now us
-        → ts ≡ ⟦<LitToken<C> as ToTokens>⟧.put literal.now [] ++ us }
+    ensures { (ts us printed : List Spanned) → ⟦<LitToken<C> as Parse>⟧.reads ts literal.now us
+        → ⟦<LitToken<C> as ToTokens>⟧.puts literal.now [] printed → ts ≡ printed ++ us }
 {}
 
 /// And so is a literal of any class, with `true` and `false`; one that begins with a minus is read of no text.
-#[tactic(auto, using(crate::proofs::Kept::kept_lit))]
 pub fn kept_literal(literal: &Lit)
-    ensures { (ts us : List Spanned) → starts_with_minus (lit_text literal.now) ≡ false
-        → ⟦<Lit as Parse>⟧.reads ts literal.now us → ts ≡ ⟦<Lit as ToTokens>⟧.put literal.now [] ++ us }
+    ensures { (ts us printed : List Spanned) → starts_with_minus (lit_text literal.now) ≡ false
+        → ⟦<Lit as Parse>⟧.reads ts literal.now us → ⟦<Lit as ToTokens>⟧.puts literal.now [] printed
+        → ts ≡ printed ++ us }
 {}
 
 /// An operator that was read is printed as its tokens, their spans included. How its last mark was spaced is not kept.
-#[tactic(auto, using(crate::proofs::Kept::kept_marks))]
 pub fn kept_operators()
-    ensures binary { (ts us : List Spanned) (op : Binary) → ⟦<BinOp as Parse>⟧.reads ts op us
-        → unspaced ts ≡ unspaced (⟦<BinOp as ToTokens>⟧.put op [] ++ us) }
-    ensures unary { (ts us : List Spanned) (op : Unary) → ⟦<UnOp as Parse>⟧.reads ts op us
-        → unspaced ts ≡ unspaced (⟦<UnOp as ToTokens>⟧.put op [] ++ us) }
-    ensures limits { (ts us : List Spanned) (op : Limits) → ⟦<RangeLimits as Parse>⟧.reads ts op us
-        → unspaced ts ≡ unspaced (⟦<RangeLimits as ToTokens>⟧.put op [] ++ us) }
+    ensures binary { (ts us printed : List Spanned) (op : Binary) → ⟦<BinOp as Parse>⟧.reads ts op us
+        → ⟦<BinOp as ToTokens>⟧.puts op [] printed → unspaced ts ≡ unspaced (printed ++ us) }
+    ensures unary { (ts us printed : List Spanned) (op : Unary) → ⟦<UnOp as Parse>⟧.reads ts op us
+        → ⟦<UnOp as ToTokens>⟧.puts op [] printed → unspaced ts ≡ unspaced (printed ++ us) }
+    ensures limits { (ts us printed : List Spanned) (op : Limits) → ⟦<RangeLimits as Parse>⟧.reads ts op us
+        → ⟦<RangeLimits as ToTokens>⟧.puts op [] printed → unspaced ts ≡ unspaced (printed ++ us) }
 {}

@@ -156,7 +156,7 @@ impl Eq for Lit {
 }
 
 impl ToTokens for Lit {
-    ghost put = { λ lit tokens. tokens ++ lit_tokens lit };
+    ghost puts = { λ lit old new. new ≡ old ++ lit_tokens lit };
 
     fn to_tokens(&self, tokens: &mut TokenStream) -> Result<(), AllocError> {
         match self {

@@ -106,7 +106,8 @@ impl<C: LitClass> Eq for LitToken<C> {
 
 #[tactic(auto, using(crate::proofs::OfClass::entered_class))]
 impl<C: LitClass> ToTokens for LitToken<C> {
-    ghost put = { λ l tokens. tokens ++ spanned (token.Literal (literal_text l.token)) (literal_span l.token) ∷ [] };
+    ghost puts = { λ l old new. new ≡ old ++ spanned (token.Literal (literal_text l.token)) (literal_span l.token)
+        ∷ [] };
 
     fn to_tokens(&self, tokens: &mut TokenStream) -> Result<(), AllocError> {
         self.token.to_tokens(tokens)

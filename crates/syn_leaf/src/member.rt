@@ -41,7 +41,7 @@ impl From<u32> for Index {
 
 #[tactic(auto, using(crate::proofs::Indices::entered))]
 impl ToTokens for Index {
-    ghost put = { λ index tokens. tokens ++ number_tokens index };
+    ghost puts = { λ index old new. new ≡ old ++ number_tokens index };
 
     /// Adds the number in plain decimal, without a suffix.
     fn to_tokens(&self, tokens: &mut TokenStream) -> Result<(), AllocError> {
@@ -105,7 +105,7 @@ impl From<u32> for Member {
 }
 
 impl ToTokens for Member {
-    ghost put = { λ member tokens. tokens ++ member_tokens member };
+    ghost puts = { λ member old new. new ≡ old ++ member_tokens member };
 
     fn to_tokens(&self, tokens: &mut TokenStream) -> Result<(), AllocError> {
         match self {

@@ -144,7 +144,7 @@ impl Hash for BinOp {
 
 #[tactic(auto, unfolding(syn_kinds::specs::Table::marks, syn_kinds::specs::Table::sign))]
 impl ToTokens for BinOp {
-    ghost put = { λ op tokens. tokens ++ marks_tokens (bin_op_text op) (bin_op_spans op) };
+    ghost puts = { λ op old new. new ≡ old ++ marks_tokens (bin_op_text op) (bin_op_spans op) };
 
     fn to_tokens(&self, tokens: &mut TokenStream) -> Result<(), AllocError> {
         match self {
@@ -245,7 +245,7 @@ impl Hash for UnOp {
 
 #[tactic(auto, unfolding(syn_kinds::specs::Table::marks, syn_kinds::specs::Table::sign))]
 impl ToTokens for UnOp {
-    ghost put = { λ op tokens. tokens ++ marks_tokens (un_op_text op) (un_op_spans op) };
+    ghost puts = { λ op old new. new ≡ old ++ marks_tokens (un_op_text op) (un_op_spans op) };
 
     fn to_tokens(&self, tokens: &mut TokenStream) -> Result<(), AllocError> {
         match self {
@@ -318,7 +318,7 @@ impl Hash for RangeLimits {
 
 #[tactic(auto, unfolding(syn_kinds::specs::Table::marks, syn_kinds::specs::Table::sign))]
 impl ToTokens for RangeLimits {
-    ghost put = { λ op tokens. tokens ++ marks_tokens (range_limits_text op) (range_limits_spans op) };
+    ghost puts = { λ op old new. new ≡ old ++ marks_tokens (range_limits_text op) (range_limits_spans op) };
 
     fn to_tokens(&self, tokens: &mut TokenStream) -> Result<(), AllocError> {
         match self {

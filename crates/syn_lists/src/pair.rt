@@ -4,7 +4,7 @@ ghost use Rattle.std.specs.Prelude.{◌≡◌, IfOk, Option};
 ghost use Rattle.std.specs.Borrow.{sem};
 ghost use Rattle.syn_lists.specs.LentPair.{lends_separator, lends_value};
 ghost use Rattle.syn_lists.specs.Pairs.{lent, option_now, option_now_mut, parts, shown_parts};
-ghost use Rattle.syn_lists.specs.Put.{put_pair};
+ghost use Rattle.syn_lists.specs.Put.{PutsPair};
 
 use proc_macro2::tree::TokenStream;
 use std::alloc::AllocError;
@@ -114,7 +114,7 @@ impl<T: TryClone, P: TryClone> Pair<&T, &P> {
 
 #[tactic(auto, using(syn_error::proofs::Fronts::keeps_both))]
 impl<T: ToTokens, P: ToTokens> ToTokens for Pair<T, P> {
-    ghost put = { λ pair. put_pair T.put P.put (parts pair) };
+    ghost puts = { λ pair. PutsPair T.puts P.puts (parts pair) };
 
     fn to_tokens(&self, tokens: &mut TokenStream) -> Result<(), AllocError> {
         match self {

@@ -2,7 +2,7 @@
 
 ghost use Rattle.std.specs.Prelude.{◌≡◌, IfOk, List, length, map};
 ghost use Rattle.syn_lists.specs.Lists.{separators, values};
-ghost use Rattle.syn_lists.specs.Put.{put_list};
+ghost use Rattle.syn_lists.specs.Put.{PutsList};
 
 use crate::punctuated::Punctuated;
 use proc_macro2::tree::TokenStream;
@@ -12,7 +12,7 @@ use try_clone::TryClone;
 
 #[tactic(auto, using(syn_error::proofs::Fronts::keeps_same, syn_error::proofs::Fronts::keeps_both))]
 impl<T: ToTokens, P: ToTokens> ToTokens for Punctuated<T, P> {
-    ghost put = { λ list. put_list T.put P.put (values list) (separators list) };
+    ghost puts = { λ list. PutsList T.puts P.puts (values list) (separators list) };
 
     fn to_tokens(&self, tokens: &mut TokenStream) -> Result<(), AllocError> {
         for index in 0..self.values.len() {
