@@ -1,5 +1,6 @@
 -- The parts of a file, read and printed one behind the other.
-use Rattle.std.specs.Prelude.{◌≡◌, ℕ, ◌-◌, ◌<◌, ◌≤◌, true, List, [], ◌∷◌, ◌++◌, drop, length}
+use Rattle.std.specs.Prelude.{◌≡◌, ℕ, ◌-◌, ◌<◌, ◌≤◌, true, List, [], ◌∷◌, ◌++◌, drop}
+use Rattle.std.specs.Prelude.{length}
 use Rattle.proc_macro2.specs.Token.{Token}
 use Rattle.writer_print.specs.Sheets.{Shows}
 use Rattle.writer_print.specs.declared.sheet.Sheet.{Sheet}

@@ -9,7 +9,8 @@ ghost use Rattle.proc_macro2.specs.Token.{plain};
 ghost use Rattle.rust_leaf.specs.Leaf.{text_of};
 ghost use Rattle.rust_map.specs.Sources.{next_position, with_text};
 ghost use Rattle.std.specs.Option.{option_map};
-ghost use Rattle.std.specs.Prelude.{◌≡◌, ◌+◌, ◌^◌, ◌≤◌, ◌↔◌, ◌++◌, ◌∷◌, [], Err, IfErr, IfOk, OnOk, length};
+ghost use Rattle.std.specs.Prelude.{◌≡◌, ◌+◌, ◌^◌, ◌≤◌, ◌↔◌, ◌++◌, ◌∷◌, [], Err};
+ghost use Rattle.std.specs.Prelude.{IfErr, IfOk, OnOk, length};
 ghost use Rattle.std.specs.Str.{chars};
 
 use crate::fault::Fault;

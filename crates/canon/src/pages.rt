@@ -3,7 +3,8 @@
 ghost use Rattle.canon.specs.Run.{IsOutlinePage, IsPage, IsPageOf, IsRunFault, row_text, rows_text, run_limit};
 ghost use Rattle.canon.specs.JoinedRun.{AreUtf8, IsJoinedFault, IsJoinedPage, IsTooLong, bytes_of};
 ghost use Rattle.rust_leaf.specs.Leaf.{text_of};
-ghost use Rattle.std.specs.Prelude.{◌≡◌, ◌++◌, ◌≤◌, ◌⊎◌, Err, IfErr, IfOk, OnOk, length, string_bytes};
+ghost use Rattle.std.specs.Prelude.{◌≡◌, ◌++◌, ◌≤◌, ◌⊎◌, Err, IfErr, IfOk, OnOk, length};
+ghost use Rattle.std.specs.Prelude.{string_bytes};
 
 use crate::fault::Fault;
 use crate::form::canonical;
@@ -71,7 +72,8 @@ pub(crate) fn joined_page(alloc: Global, texts: &[&[u8]]) -> Result<String, Faul
 fn checked<'a>(alloc: Global, all: &[&'a [u8]]) -> Result<Vec<&'a str>, Fault>
     ensures same { IfOk result (λ texts. bytes_of texts.items ≡ bytes_of all.now) }
     ensures text { OnOk result (AreUtf8 (bytes_of all.now)) }
-    ensures fault { IfErr result (λ f. (f ≡ Fault.Memory) ⊎ (f ≡ Fault.NotUtf8) × (AreUtf8 (bytes_of all.now) → ⊥)) }
+    ensures fault { IfErr result (λ f.
+        (f ≡ Fault.Memory) ⊎ (f ≡ Fault.NotUtf8) × (AreUtf8 (bytes_of all.now) → ⊥)) }
 {
     let mut texts = Vec::new(alloc);
     for bytes in all {

@@ -5,7 +5,8 @@ ghost use Rattle.canon.specs.JoinedRun.{AreUtf8, IsJoinedFault, IsJoinedPage, Is
 ghost use Rattle.canon_io.specs.Bytes.{ConsumesAtMost};
 ghost use Rattle.canon_io.specs.Watched.{has_failed, inner_of, is_flushed};
 ghost use Rattle.std.specs.Io.KnownBytes.{Appends};
-ghost use Rattle.std.specs.Prelude.{◌≡◌, ◌+◌, ◌≤◌, ◌↔◌, ◌⊎◌, ℕ, Err, IfErr, IfOk, IfSome, IsTrue, OnErr, OnOk, false};
+ghost use Rattle.std.specs.Prelude.{◌≡◌, ◌+◌, ◌≤◌, ◌↔◌, ◌⊎◌, ℕ, Err, IfErr, IfOk, IfSome};
+ghost use Rattle.std.specs.Prelude.{IsTrue, OnErr, OnOk, false};
 ghost use Rattle.std.specs.Prelude.{string_bytes, take};
 
 use crate::fault::Fault;

@@ -1,5 +1,6 @@
 -- What the files that a program joins hold, and what is at fault with them.
-use Rattle.std.specs.Prelude.{◌≡◌, ℕ, ◌<◌, ◌≤◌, ◌⊎◌, List, [], ◌∷◌, ◌++◌, length, Option, IfSome}
+use Rattle.std.specs.Prelude.{◌≡◌, ℕ, ◌<◌, ◌≤◌, ◌⊎◌, List, [], ◌∷◌, ◌++◌, length}
+use Rattle.std.specs.Prelude.{Option, IfSome}
 use Rattle.canon.specs.JoinedRun.{IsJoinedFault}
 use Rattle.canon.specs.Run.{run_limit}
 use Rattle.canon.specs.declared.fault.Fault.{Fault}
@@ -23,7 +24,8 @@ IsUnread held Memory = Unit {0}
 IsUnread held fault = ⊥
 
 -- The first file that was not read decides: those before it were.
-pub record IsFirstUnread (held : List ℕ → Option (List ℕ)) (names : List (List ℕ)) (fault : Fault) : Type 0 where
+pub record IsFirstUnread (held : List ℕ → Option (List ℕ)) (names : List (List ℕ))
+    (fault : Fault) : Type 0 where
   pub before : List (List ℕ)
   pub name : List ℕ
   pub others : List (List ℕ)

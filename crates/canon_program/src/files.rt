@@ -4,7 +4,8 @@ ghost use Rattle.canon.specs.JoinedRun.{IsJoinedPage, bytes_of};
 ghost use Rattle.canon.specs.Run.{Writes, WritesFront, run_limit};
 ghost use Rattle.canon_io.specs.Watched.{has_failed, inner_of, is_flushed};
 ghost use Rattle.canon_program.specs.Files.{AreHeld, IsFilesFault, IsFirstUnread, IsUnread, OfFiles};
-ghost use Rattle.std.specs.Prelude.{◌≡◌, ◌≤◌, ◌↔◌, ℕ, List, Option, None, Err, IfErr, IfOk, IfSome, IsTrue, OnOk};
+ghost use Rattle.std.specs.Prelude.{◌≡◌, ◌≤◌, ◌↔◌, ℕ, List, Option, None, Err, IfErr, IfOk, IfSome};
+ghost use Rattle.std.specs.Prelude.{IsTrue, OnOk};
 ghost use Rattle.std.specs.Prelude.{false, length, map, string_bytes, vec_items};
 
 use canon::{Fault, Watched, run_joined};
