@@ -12,7 +12,8 @@ use Rattle.syn_grammar.specs.Kind.{ExprInfer, ExprBlock, ExprUnsafe, ExprAsync, 
 use Rattle.syn_grammar.specs.Kind.{ExprMatch, ExprLoop, ExprWhile, ExprForLoop, ExprContinue, ExprTypedClosure}
 use Rattle.syn_grammar.specs.Kind.{ExprAttributed, ExprUnary, ExprRawAddr, ExprReference, ExprLet, ExprBreak}
 use Rattle.syn_grammar.specs.Kind.{ExprReturn, ExprYield, ExprClosure, ExprRange, ExprRangeClosed}
-use Rattle.syn_grammar.specs.Words.{same_text, is_reserved, is_path_keyword, is_plain_name, is_bool}
+use Rattle.syn_grammar.specs.Words.{is_path_keyword, is_plain_name, is_bool}
+use Rattle.rust_leaf.specs.Keywords.{same_text, is_reserved}
 use Rattle.syn_grammar.specs.Name.{Part}
 use Rattle.syn_grammar.specs.Gram.{Gram, word, literal, mark, group, called, ref}
 use Rattle.syn_grammar.specs.Table.{table}

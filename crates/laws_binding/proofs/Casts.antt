@@ -14,7 +14,8 @@ use Rattle.syn_grammar.specs.Name.{Part, the_arguments}
 use Rattle.syn_grammar.specs.Part.{changed}
 use Rattle.syn_grammar.specs.Tidy.{lifetimes_first, is_lifetime_argument}
 use Rattle.syn_grammar.specs.Expressions.{postfix_stands}
-use Rattle.syn_grammar.specs.Words.{is_name, is_path_keyword, is_reserved, same_text}
+use Rattle.syn_grammar.specs.Words.{is_name, is_path_keyword}
+use Rattle.rust_leaf.specs.Keywords.{is_reserved, same_text}
 use Rattle.syn_grammar.specs.Tree.{Tree, AWord, AMark, Nil, Pair, First, Second, Group, Called, Node, marks, flat}
 use Rattle.syn_grammar.specs.Gram.{Gram, word, mark, nothing, never, seq, alt, group, called, ref}
 use Rattle.syn_grammar.specs.Look.{seen, sees, first_seen, a_lifetime}

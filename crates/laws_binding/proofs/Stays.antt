@@ -9,7 +9,8 @@ use Rattle.proc_macro2.specs.declared.delimiter.Delimiter.TheVariants.{Brace}
 use Rattle.syn_grammar.specs.Kind.{Kind, Position, Plain, InCondition, InArm, InStatement, ExprPath, ExprAttributed}
 use Rattle.syn_grammar.specs.Kind.{ExprBreak, ExprReturn, ExprYield, ExprRange}
 use Rattle.syn_grammar.specs.Name.{the_label, same_part}
-use Rattle.syn_grammar.specs.Words.{any_text, same_text}
+use Rattle.syn_grammar.specs.Words.{any_text}
+use Rattle.rust_leaf.specs.Keywords.{same_text}
 use Rattle.syn_grammar.specs.Tree.{Tree, AWord, Nil, Pair, First, Second, Called, Alone, Front, Back, Infix, flat}
 use Rattle.syn_grammar.specs.Gram.{Gram, word, lifetime, never, nothing, seq, alt, called}
 use Rattle.syn_grammar.specs.Look.{seen, sees, behind, first_seen, a_word, a_lifetime}

@@ -9,7 +9,7 @@ use Rattle.rust_leaf.specs.declared.punct.Spacing.TheVariants.{Alone as Apart, J
 use Rattle.syn_grammar.specs.Kind.{Kind, Position, ExprCall, ExprMethodCall, ExprField, ExprAwait, ExprIndex}
 use Rattle.syn_grammar.specs.Kind.{ExprTry, ExprCast, ExprRange, ExprRangeClosed, ExprAssign, ExprOr, ExprAnd}
 use Rattle.syn_grammar.specs.Kind.{ExprCompare, ExprBitOr, ExprBitXor, ExprBitAnd, ExprShift, ExprSum, ExprProduct}
-use Rattle.syn_grammar.specs.Words.{same_text}
+use Rattle.rust_leaf.specs.Keywords.{same_text}
 use Rattle.syn_grammar.specs.Tree.{Tree, AMark, Nil, First, Second, marks, flat}
 use Rattle.syn_grammar.specs.Gram.{Gram, mark, never, alt}
 use Rattle.syn_grammar.specs.Look.{Look, seen, sees, ◌then◌, no}

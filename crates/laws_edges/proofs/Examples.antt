@@ -9,7 +9,8 @@ use Rattle.syn_grammar.specs.Kind.{Plain, InCondition, InStatement, ExprPath, Ex
 use Rattle.syn_grammar.specs.Kind.{ExprCast, ExprUnary, ExprReference, ExprReturn, ExprClosure, ExprRange, ExprAssign}
 use Rattle.syn_grammar.specs.Kind.{ExprCompare, ExprSum, ExprProduct, ExprOr, ExprAnd, ExprLet, ExprAttributed}
 use Rattle.syn_grammar.specs.Tree.{Tree, Alone, Front, Back, Infix}
-use Rattle.syn_grammar.specs.Words.{is_bool, is_name, is_plain_name, is_path_keyword, is_reserved}
+use Rattle.syn_grammar.specs.Words.{is_bool, is_name, is_plain_name, is_path_keyword}
+use Rattle.rust_leaf.specs.Keywords.{is_reserved}
 use Rattle.syn_grammar.specs.Table.{table}
 use Rattle.syn_grammar.specs.Ranks.{rank, forms, top}
 use Rattle.syn_grammar.specs.Forms.{front, back, has_right, level, inside, stands_left, chains, takes}

@@ -6,7 +6,7 @@ use Rattle.std.proofs.lemmas.Slice.Eq.{bytes_eq-Decides}
 use Rattle.proc_macro2.specs.Token.{Token, Ident, Literal}
 use Rattle.syn_grammar.specs.Kind.{Kind, InFile, AStruct, AnEnum, AUnion, AStatic, AConst, AnExternCrate}
 use Rattle.syn_grammar.specs.Kind.{AForeignModule, AUse, AModule, ATrait, AFunction, ATypeAlias}
-use Rattle.syn_grammar.specs.Words.{same_text}
+use Rattle.rust_leaf.specs.Keywords.{same_text}
 use Rattle.syn_grammar.specs.Table.{table}
 use Rattle.syn_grammar.specs.Tree.{Tree, AWord, ALiteral, AMark, Nil, Pair, First, Second, Group, Called, Node, flat}
 use Rattle.syn_grammar.specs.Part.{choice}
@@ -14,7 +14,8 @@ use Rattle.syn_grammar.specs.Lists.{item_form}
 use Rattle.syn_grammar.specs.Derives.{Derives}
 use Rattle.rust_leaf.specs.declared.punct.Spacing.{Spacing}
 use Rattle.syn_grammar.specs.Kind.{Generics, Abi, Signature}
-use Rattle.syn_grammar.specs.Words.{is_ident, is_reserved, is_string}
+use Rattle.syn_grammar.specs.Words.{is_ident, is_string}
+use Rattle.rust_leaf.specs.Keywords.{is_reserved}
 use Rattle.syn_grammar.specs.Tree.{AMark, Verbatim, marks}
 use Rattle.syn_grammar.specs.Look.{Look, seen, sees, behind, first_seen, ◌then◌}
 use Rattle.syn_grammar.specs.Look.{maybe, a_word, a_quoted}

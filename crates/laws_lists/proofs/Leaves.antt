@@ -2,13 +2,13 @@
 use Rattle.std.proofs.Common.{◌≡◌, ℕ, List, [], ◌∷◌, refl, ap, ◌∙◌}
 use Rattle.std.proofs.lemmas.Bool.{eq-eqb}
 use Rattle.std.specs.Prelude.{Bool, true, false, not, cond, ◌==◌, ◌&&◌}
+use Rattle.rust_leaf.specs.Keywords.{is_reserved}
 use Rattle.rust_map.specs.declared.span.Span.{Span}
 use Rattle.rust_leaf.specs.declared.punct.Spacing.{Spacing}
 use Rattle.rust_leaf.specs.declared.punct.Spacing.TheVariants.{Joint, Alone as Apart}
 use Rattle.proc_macro2.specs.Flat.{spanned}
 use Rattle.proc_macro2.specs.Token.{Token, Spanned, Opens, Closes, Ident, Literal, Punct, plain}
 use Rattle.syn_kinds.specs.Stands.{marks_stand, ident_stands}
-use Rattle.syn_kinds.specs.Table as table
 use Rattle.syn_peek.specs.Marks.{ReadsMarks}
 use Rattle.syn_grammar.specs.Gram.{punct}
 use Rattle.syn_grammar.specs.Keeps.{keeps, mark_kept}
@@ -16,25 +16,21 @@ use Rattle.syn_grammar.specs.Kept.{kept}
 use Rattle.syn_grammar.specs.Run.{Out, Refused, Got, wrap, word_at, mark_at, mark_onto}
 use Rattle.syn_grammar.specs.Say.{ident}
 use Rattle.syn_grammar.specs.Tree.{AWord, AMark}
-use Rattle.syn_grammar.specs.Words as words
+use Rattle.syn_grammar.specs.Words.{is_ident}
 use Rattle.laws_lists.specs.Leaves.{marks_tree}
 
 -- names
-pub same_reserved : (cs : List ℕ) → words.is_reserved cs ≡ table.is_reserved cs
-unfolding words.is_reserved table.is_reserved table.kept_words
-same_reserved cs = refl
-
 pub ident_read : (cs : List ℕ) (s : Span) (ts us : List Spanned) → ts ≡ spanned (Ident cs) s ∷ us
-    → table.is_reserved cs ≡ false → keeps ident (plain ts) ≡ Got (AWord cs) (plain us)
+    → is_reserved cs ≡ false → keeps ident (plain ts) ≡ Got (AWord cs) (plain us)
 unfolding word_at
 ident_read cs s ts us e r =
     ap (λ vs. keeps ident (plain vs)) e
-    ∙ ap (λ b. cond (not b) (Got (AWord cs) (plain us)) Refused) (same_reserved cs ∙ r)
+    ∙ ap (λ b. cond (not b) (Got (AWord cs) (plain us)) Refused) r
 
-no_ident : (ts : List Token) → ident_stands ts ≡ false → word_at words.is_ident ts ≡ Refused
+no_ident : (ts : List Token) → ident_stands ts ≡ false → word_at is_ident ts ≡ Refused
 unfolding word_at
 no_ident [] e = refl
-no_ident (Ident ds ∷ ts) e = ap (λ b. cond b (Got (AWord ds) ts) Refused) (ap not (same_reserved ds) ∙ e)
+no_ident (Ident ds ∷ ts) e = ap (λ b. cond b (Got (AWord ds) ts) Refused) e
 no_ident (Opens d ∷ ts) e = refl
 no_ident (Closes d ∷ ts) e = refl
 no_ident (Literal ds ∷ ts) e = refl

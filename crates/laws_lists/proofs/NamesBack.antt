@@ -7,7 +7,8 @@ use Rattle.rust_map.specs.declared.span.Span.{Span}
 use Rattle.rust_leaf.specs.Leaf.{ident_text}
 use Rattle.rust_leaf.specs.declared.ident.Ident.{Ident}
 use Rattle.proc_macro2.specs.Token.{Spanned}
-use Rattle.syn_kinds.specs.Table.{is_reserved, marks}
+use Rattle.syn_kinds.specs.Table.{marks}
+use Rattle.rust_leaf.specs.Keywords.{is_reserved}
 use Rattle.syn_kinds.specs.Values.{marks_tokens}
 use Rattle.syn_kinds.proofs.Marks.{marks_count}
 use Rattle.syn_lists.specs.Lists.{IsSeparated}

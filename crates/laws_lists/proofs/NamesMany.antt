@@ -7,7 +7,8 @@ use Rattle.rust_leaf.specs.Leaf.{ident_span, ident_text}
 use Rattle.rust_leaf.specs.declared.punct.Spacing.TheVariants.{Alone as Apart, Joint}
 use Rattle.proc_macro2.specs.Token.{Token, Opens, Closes, Ident, Literal, Punct, plain}
 use Rattle.syn_kinds.specs.Stands.{ident_stands, marks_stand}
-use Rattle.syn_kinds.specs.Table.{is_reserved, marks}
+use Rattle.syn_kinds.specs.Table.{marks}
+use Rattle.rust_leaf.specs.Keywords.{is_reserved}
 use Rattle.syn_kinds.proofs.Marks.{mark_at as row_mark, marks_count}
 use Rattle.syn_buffer.specs.Leaves.{ident_token}
 use Rattle.syn_peek.specs.Marks.{ReadsMarks}

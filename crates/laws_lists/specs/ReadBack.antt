@@ -6,7 +6,8 @@ use Rattle.rust_leaf.specs.Leaf.{ident_text}
 use Rattle.rust_leaf.specs.declared.ident.Ident.{Ident}
 use Rattle.proc_macro2.specs.Token.{Spanned, plain}
 use Rattle.syn_kinds.specs.Stands.{ident_stands, marks_stand}
-use Rattle.syn_kinds.specs.Table.{is_reserved, marks}
+use Rattle.syn_kinds.specs.Table.{marks}
+use Rattle.rust_leaf.specs.Keywords.{is_reserved}
 use Rattle.syn_kinds.specs.Values.{marks_tokens}
 use Rattle.syn_lists.specs.Put.{Put, put_list}
 use Rattle.syn_buffer.specs.Leaves.{ident_token}

@@ -11,7 +11,8 @@ use Rattle.rust_leaf.specs.declared.punct.Spacing.TheVariants.{Alone as Apart, J
 use Rattle.syn_grammar.specs.Kind.{Kind, Position, Plain, InCondition, InArm, InStatement, Block, Body, Label}
 use Rattle.syn_grammar.specs.Kind.{ExprArray, Expression}
 use Rattle.syn_grammar.specs.Kind.{ExprAsync, ExprBlock, ExprConst, ExprForLoop, ExprLoop, ExprRepeat, ExprWhile}
-use Rattle.syn_grammar.specs.Words.{is_bool, is_reserved, same_text}
+use Rattle.syn_grammar.specs.Words.{is_bool}
+use Rattle.rust_leaf.specs.Keywords.{is_reserved, same_text}
 use Rattle.syn_grammar.specs.Tree.{Tree, AWord, AMark, ALifetime, Nil, Pair, First, Second, Group, Called, Node}
 use Rattle.syn_grammar.specs.Tree.{marks, flat}
 use Rattle.syn_grammar.specs.Gram.{Gram, group, ref}

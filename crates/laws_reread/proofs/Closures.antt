@@ -17,7 +17,8 @@ use Rattle.syn_grammar.specs.Kind.{IdentPattern, WildPattern, RangeToPattern, Re
 use Rattle.syn_grammar.specs.Kind.{SlicePattern, ReferencePattern, LiteralPattern, PathPattern, RangeEnd}
 use Rattle.syn_grammar.specs.Kind.{RangeBound, FieldPatterns, OuterAttributes, OuterAttribute, LifetimeParam}
 use Rattle.syn_grammar.specs.Kind.{LifetimeColon, Body, ClosureParam}
-use Rattle.syn_grammar.specs.Words.{is_bool, is_reserved, same_text}
+use Rattle.syn_grammar.specs.Words.{is_bool}
+use Rattle.rust_leaf.specs.Keywords.{is_reserved, same_text}
 use Rattle.syn_grammar.specs.Tree.{Tree, AWord, AMark, Nil, Pair, First, Second, marks as signs, flat}
 use Rattle.syn_grammar.specs.Gram.{many, ref}
 use Rattle.syn_grammar.specs.Look.{Look, a_lifetime, first_seen, seen, sees, behind, ◌then◌, ◌or◌}

@@ -15,7 +15,8 @@ use Rattle.syn_grammar.specs.Name.{the_semicolon, the_type, the_visibility, the_
 use Rattle.proc_macro2.specs.Token.{Token, Opens, Closes, Literal, Punct}
 use Rattle.proc_macro2.specs.declared.delimiter.Delimiter.TheVariants.{Parenthesis, Brace, Bracket}
 use Rattle.rust_leaf.specs.declared.punct.Spacing.TheVariants.{Alone as Apart, Joint}
-use Rattle.syn_grammar.specs.Words.{is_bool, is_name, is_path_keyword, is_plain_name, is_reserved}
+use Rattle.syn_grammar.specs.Words.{is_bool, is_name, is_path_keyword, is_plain_name}
+use Rattle.rust_leaf.specs.Keywords.{is_reserved}
 use Rattle.syn_grammar.specs.Gram.{ref}
 use Rattle.syn_grammar.specs.Table.{table}
 use Rattle.syn_grammar.specs.Derives.{Derives}

@@ -11,7 +11,8 @@ use Rattle.syn_grammar.specs.Kind.{AStatement, Kind, Position, Plain, InConditio
 use Rattle.syn_grammar.specs.Kind.{ExprLit}
 use Rattle.syn_grammar.specs.Tree.{Tree, Whole, Alone, Front, Back, Infix, flat}
 use Rattle.syn_grammar.specs.Forms.{front}
-use Rattle.syn_grammar.specs.Words.{is_bool, is_name, is_path_keyword, is_reserved}
+use Rattle.syn_grammar.specs.Words.{is_bool, is_name, is_path_keyword}
+use Rattle.rust_leaf.specs.Keywords.{is_reserved}
 use Rattle.syn_grammar.specs.Ranks.{skips}
 use Rattle.syn_grammar.specs.Table.{table}
 use Rattle.syn_grammar.specs.Kept.{held, kept}

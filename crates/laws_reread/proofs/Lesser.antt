@@ -16,7 +16,7 @@ use Rattle.syn_grammar.specs.Kind.{PointerType, BracketType, InferType, FnPtrTyp
 use Rattle.syn_grammar.specs.Kind.{BoundLifetimes, Lifetimes, Abi, OuterAttributes, OuterAttribute, LifetimeParam}
 use Rattle.syn_grammar.specs.Kind.{LifetimeColon, Body, ExprCast}
 use Rattle.syn_grammar.specs.Words.{any_text, is_bool, is_ident, is_name, is_path_keyword, is_plain_name, is_string}
-use Rattle.syn_grammar.specs.Words.{same_text}
+use Rattle.rust_leaf.specs.Keywords.{same_text}
 use Rattle.syn_grammar.specs.Tree.{Tree, AWord, ALiteral, AMark, ALifetime, Raw, Nil, Pair, First, Second, End, Again}
 use Rattle.syn_grammar.specs.Tree.{Final, More, Group, Dropped, Called, Verbatim, Node, Whole, flat}
 use Rattle.syn_grammar.specs.Gram.{Gram, word, literal, mark, lifetime, raw, nothing, seq, alt, star, many}

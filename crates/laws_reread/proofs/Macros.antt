@@ -9,7 +9,8 @@ use Rattle.rust_leaf.specs.declared.punct.Spacing.{Spacing}
 use Rattle.rust_leaf.specs.declared.punct.Spacing.TheVariants.{Alone as Apart, Joint}
 use Rattle.syn_grammar.specs.Kind.{Kind, Position, Plain, InCondition, InArm, InStatement, InModule, ExprMacro}
 use Rattle.syn_grammar.specs.Kind.{AMacro, Path, Segments}
-use Rattle.syn_grammar.specs.Words.{is_bool, is_name, is_path_keyword, is_plain_name, is_reserved, same_text}
+use Rattle.syn_grammar.specs.Words.{is_bool, is_name, is_path_keyword, is_plain_name}
+use Rattle.rust_leaf.specs.Keywords.{is_reserved, same_text}
 use Rattle.syn_grammar.specs.Tree.{Tree, AWord, AMark, Nil, Pair, First, Second, Node, marks as signs, flat}
 use Rattle.syn_grammar.specs.Look.{Look, ◌then◌, a_path, seen, sees, behind, first_seen, as_far, repeatedly}
 use Rattle.syn_grammar.specs.Say.{at, marks}

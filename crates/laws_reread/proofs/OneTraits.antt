@@ -8,7 +8,8 @@ use Rattle.syn_grammar.specs.Kind.{Plain, Visibility}
 use Rattle.syn_grammar.specs.Name.{same_part, the_equals, the_item}
 use Rattle.syn_grammar.specs.Tree.{Tree, Called, Node, Pair}
 use Rattle.syn_grammar.specs.Part.{the}
-use Rattle.syn_grammar.specs.Words.{is_name, is_path_keyword, is_reserved}
+use Rattle.syn_grammar.specs.Words.{is_name, is_path_keyword}
+use Rattle.rust_leaf.specs.Keywords.{is_reserved}
 use Rattle.syn_grammar.specs.Gram.{Gram, ref}
 use Rattle.syn_grammar.specs.Look.{a_name, ◌or◌}
 use Rattle.syn_grammar.specs.Types.{kept_if}

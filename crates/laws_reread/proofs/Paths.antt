@@ -10,8 +10,9 @@ use Rattle.rust_leaf.specs.declared.punct.Spacing.{Spacing}
 use Rattle.rust_leaf.specs.declared.punct.Spacing.TheVariants.{Alone as Apart, Joint}
 use Rattle.syn_grammar.specs.Kind.{Kind, Position, Plain, InCondition, InArm, InStatement, InExpression, ExprPath}
 use Rattle.syn_grammar.specs.Kind.{AnyPath, ExprMacro, Path, Segments}
-use Rattle.syn_grammar.specs.Words.{is_among, is_bool, is_ident, is_name, is_path_keyword, is_plain_name}
-use Rattle.syn_grammar.specs.Words.{is_reserved, same_text}
+use Rattle.syn_grammar.specs.Words.{is_bool, is_ident, is_name, is_path_keyword, is_plain_name}
+use Rattle.rust_leaf.specs.Keywords.{is_among}
+use Rattle.rust_leaf.specs.Keywords.{is_reserved, same_text}
 use Rattle.syn_grammar.specs.Tree.{Tree, AWord, AMark, Nil, Pair, First, Second, Node, marks as signs, flat}
 use Rattle.syn_grammar.specs.Look.{Look, seen, sees, behind, first_seen, ◌then◌, no, as_far, repeatedly, a_name}
 use Rattle.syn_grammar.specs.Look.{the_mark}

@@ -6,7 +6,8 @@ use Rattle.proc_macro2.specs.Token.{Token, Ident}
 use Rattle.proc_macro2.specs.declared.delimiter.Delimiter.TheVariants.{Bracket}
 use Rattle.syn_grammar.specs.Kind.{Kind, Position, Plain, InCondition, InArm, InStatement, ExprAttributed}
 use Rattle.syn_grammar.specs.Kind.{ExprContinue, ExprIf, ExprLet, ExprMatch}
-use Rattle.syn_grammar.specs.Words.{is_bool, is_reserved}
+use Rattle.syn_grammar.specs.Words.{is_bool}
+use Rattle.rust_leaf.specs.Keywords.{is_reserved}
 use Rattle.syn_grammar.specs.Tree.{Tree, flat}
 use Rattle.syn_grammar.specs.Look.{sees, a_lifetime}
 use Rattle.syn_grammar.specs.Say.{at, marks}

@@ -15,9 +15,10 @@ use Rattle.syn_grammar.specs.Kind.{ExprGroup}
 use Rattle.syn_grammar.specs.Kind.{ExprMacro, ExprPath}
 use Rattle.syn_grammar.specs.Kind.{ExprTypedClosure, ExprUnsafe, InStatement, OuterAttributes}
 use Rattle.syn_grammar.specs.Name.{the_semicolon}
-use Rattle.syn_grammar.specs.Words.{ends_in_dot, is_among, is_bool, is_ident, is_name, is_path_keyword, is_plain_name}
-use Rattle.syn_grammar.specs.Words.{is_reserved}
-use Rattle.syn_grammar.specs.Words.{same_text}
+use Rattle.syn_grammar.specs.Words.{ends_in_dot, is_bool, is_ident, is_name, is_path_keyword, is_plain_name}
+use Rattle.rust_leaf.specs.Keywords.{is_among}
+use Rattle.rust_leaf.specs.Keywords.{is_reserved}
+use Rattle.rust_leaf.specs.Keywords.{same_text}
 use Rattle.syn_grammar.specs.Tree.{Tree, AMark, AWord, Alone, Back, Called, First, Front, Group, Infix, Nil, Node, Pair}
 use Rattle.syn_grammar.specs.Tree.{Second, Whole, marks as signs, flat}
 use Rattle.syn_grammar.specs.Gram.{raw, ref}

@@ -10,7 +10,8 @@ use Rattle.proc_macro2.specs.declared.delimiter.Delimiter.TheVariants.{Brace}
 use Rattle.rust_leaf.specs.declared.punct.Spacing.{Spacing}
 use Rattle.syn_grammar.specs.Kind.{Kind, AnItem, AStatement, InFile, InForeign, InImpl, InModule, InTrait, ItemMacro}
 use Rattle.syn_grammar.specs.Kind.{Path, Segments}
-use Rattle.syn_grammar.specs.Words.{is_among, is_ident, is_name, is_path_keyword, is_plain_name, is_reserved, same_text}
+use Rattle.syn_grammar.specs.Words.{is_ident, is_name, is_path_keyword, is_plain_name}
+use Rattle.rust_leaf.specs.Keywords.{is_among, is_reserved, same_text}
 use Rattle.syn_grammar.specs.Name.{the_pub}
 use Rattle.syn_grammar.specs.Part.{choice, has}
 use Rattle.syn_grammar.specs.Tree.{Tree, AMark, AWord, Called, First, Group, Nil, Node, Pair, Second}

@@ -10,7 +10,8 @@ use Rattle.rust_leaf.specs.declared.punct.Spacing.TheVariants.{Alone as Apart, J
 use Rattle.syn_grammar.specs.Kind.{Kind, Position, BoundLifetimes, ExprClosure, ExprForLoop, LifetimeParam}
 use Rattle.syn_grammar.specs.Kind.{ExprAttributed, ExprBlock, ExprLit, ExprLoop, ExprTypedClosure, ExprWhile}
 use Rattle.syn_grammar.specs.Kind.{OuterAttribute, OuterAttributes, ReturnType, WithPlus}
-use Rattle.syn_grammar.specs.Words.{is_bool, is_reserved}
+use Rattle.syn_grammar.specs.Words.{is_bool}
+use Rattle.rust_leaf.specs.Keywords.{is_reserved}
 use Rattle.syn_grammar.specs.Tree.{Tree, ALifetime, AMark, AWord, Again, End, Final, First, More, Nil, Node, Pair}
 use Rattle.syn_grammar.specs.Tree.{Second, marks as signs, flat}
 use Rattle.syn_grammar.specs.Gram.{Gram, many, ref}

@@ -11,7 +11,8 @@ use Rattle.syn_grammar.specs.Kind.{Kind, AType, AnImpl, AnItem, ImplGenerics, Im
 use Rattle.syn_grammar.specs.Kind.{ItemMacro, Visibility, Where, WithPlus}
 use Rattle.syn_grammar.specs.Name.{Part, same_part, the_const, the_default, the_first, the_generics}
 use Rattle.syn_grammar.specs.Name.{the_polarity, the_pub, the_safety, the_self, the_where}
-use Rattle.syn_grammar.specs.Words.{is_ident, is_name, is_path_keyword, is_reserved, is_string, same_text}
+use Rattle.syn_grammar.specs.Words.{is_ident, is_name, is_path_keyword, is_string}
+use Rattle.rust_leaf.specs.Keywords.{is_reserved, same_text}
 use Rattle.syn_grammar.specs.Tree.{Tree, AMark, AWord, Called, First, Nil, Node, Pair, Second, Verbatim, flat}
 use Rattle.syn_grammar.specs.Part.{choice, found, has, is_some, or_else}
 use Rattle.syn_grammar.specs.Gram.{Gram, Verdict, AsRaw, alt, ref, never as none}

@@ -17,8 +17,9 @@ use Rattle.syn_grammar.specs.Kind.{ExprPath, FieldValues, InExpression, InModule
 use Rattle.syn_grammar.specs.Kind.{ParenthesizedArguments, Path, QualifiedPath, Segments}
 use Rattle.syn_grammar.specs.Name.{the_indices, the_value}
 use Rattle.syn_grammar.specs.Words.{plain_decimal}
-use Rattle.syn_grammar.specs.Words.{is_among, is_bool, is_name, is_path_keyword, is_plain_name, is_reserved}
-use Rattle.syn_grammar.specs.Words.{same_text}
+use Rattle.syn_grammar.specs.Words.{is_bool, is_name, is_path_keyword, is_plain_name}
+use Rattle.rust_leaf.specs.Keywords.{is_among, is_reserved}
+use Rattle.rust_leaf.specs.Keywords.{same_text}
 use Rattle.syn_grammar.specs.Tree.{Tree, ALiteral, AMark, AWord, Alone, Back, Called, End, First, Front, Group, Infix}
 use Rattle.syn_grammar.specs.Tree.{Nil, Node, Pair, Second, Verbatim, marks as signs, flat}
 use Rattle.syn_grammar.specs.Look.{first_seen, seen, sees}

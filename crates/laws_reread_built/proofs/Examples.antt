@@ -5,7 +5,8 @@ use Rattle.proc_macro2.specs.declared.delimiter.Delimiter.TheVariants.{Parenthes
 use Rattle.rust_leaf.specs.declared.punct.Spacing.TheVariants.{Alone as Apart}
 use Rattle.syn_grammar.specs.Kind.{Style, AtType, InModule, Plain, AMacro, Delimited, Expression, ExprLit, ExprMacro}
 use Rattle.syn_grammar.specs.Kind.{ExprSum, ExprUnary, Path, Segments}
-use Rattle.syn_grammar.specs.Words.{is_bool, is_name, is_path_keyword, is_plain_name, is_reserved}
+use Rattle.syn_grammar.specs.Words.{is_bool, is_name, is_path_keyword, is_plain_name}
+use Rattle.rust_leaf.specs.Keywords.{is_reserved}
 use Rattle.syn_grammar.specs.Tree.{Tree, AWord, ALiteral, AMark, Raw, Nil, Pair, First, Second, Group, Node, Whole}
 use Rattle.syn_grammar.specs.Tree.{Alone, Front, Infix, flat}
 use Rattle.syn_grammar.specs.Gram.{operand}

@@ -6,7 +6,8 @@ use Rattle.proc_macro2.specs.Token.{Token, Ident, Literal, Punct}
 use Rattle.rust_leaf.specs.declared.punct.Spacing.TheVariants.{Alone as Apart}
 use Rattle.syn_grammar.specs.Kind.{Plain, ExprAwait, ExprField, ExprMethodCall}
 use Rattle.syn_grammar.specs.Name.{same_part}
-use Rattle.syn_grammar.specs.Words.{same_text, is_ident, is_reserved, are_indices, ends_in_dot}
+use Rattle.syn_grammar.specs.Words.{is_ident, are_indices, ends_in_dot}
+use Rattle.rust_leaf.specs.Keywords.{same_text, is_reserved}
 use Rattle.syn_grammar.specs.Look.{Look, seen, sees, behind, ◌or◌}
 use Rattle.syn_grammar.specs.Say.{marks, parenthesis}
 use Rattle.syn_grammar.specs.Forms.{back}

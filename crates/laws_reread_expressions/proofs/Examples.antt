@@ -3,7 +3,8 @@ use Rattle.std.proofs.Common.{[], refl, inl, inr}
 use Rattle.std.specs.Prelude.{codes}
 use Rattle.rust_leaf.specs.declared.punct.Spacing.TheVariants.{Alone as Apart}
 use Rattle.syn_grammar.specs.Kind.{Plain, Expression, ExprLit, ExprPath, ExprSum, ExprUnary}
-use Rattle.syn_grammar.specs.Words.{is_plain_name, is_reserved}
+use Rattle.syn_grammar.specs.Words.{is_plain_name}
+use Rattle.rust_leaf.specs.Keywords.{is_reserved}
 use Rattle.syn_grammar.specs.Tree.{Tree, ALiteral, AMark, First, Second, Node, Whole, Alone, Front, Infix}
 use Rattle.syn_grammar.specs.Gram.{ref}
 use Rattle.syn_grammar.specs.Forms.{level}

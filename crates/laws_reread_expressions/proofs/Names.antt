@@ -6,7 +6,8 @@ use Rattle.std.proofs.lemmas.Bool.{false≢true}
 use Rattle.proc_macro2.specs.Token.{Token, Opens, Closes, Ident, Literal, Punct}
 use Rattle.rust_leaf.specs.declared.punct.Spacing.TheVariants.{Alone as Apart, Joint}
 use Rattle.syn_grammar.specs.Kind.{Position, Plain, InCondition, InArm, InStatement, ExprPath}
-use Rattle.syn_grammar.specs.Words.{same_text, is_bool, is_name, is_plain_name, is_path_keyword, is_reserved, is_ident}
+use Rattle.syn_grammar.specs.Words.{is_bool, is_name, is_plain_name, is_path_keyword, is_ident}
+use Rattle.rust_leaf.specs.Keywords.{same_text, is_reserved}
 use Rattle.syn_grammar.specs.Tree.{flat}
 use Rattle.syn_grammar.specs.Look.{a_lifetime, Look, seen, sees, behind, first_seen, the_mark}
 use Rattle.syn_grammar.specs.Look.{a_name, a_path, repeatedly, as_far, ◌then◌, ◌or◌, no}

@@ -12,7 +12,8 @@ use Rattle.syn_grammar.specs.Kind.{InStatement, ExprLit, ExprParen, ExprGroup, E
 use Rattle.syn_grammar.specs.Kind.{ExprTryBlock, ExprReturn, ExprYield, ExprUnary, ExprRange, ExprRangeClosed}
 use Rattle.syn_grammar.specs.Kind.{ExprCall, ExprIndex, ExprTry, ExprAssign, ExprOr, ExprAnd, ExprCompare, ExprBitOr}
 use Rattle.syn_grammar.specs.Kind.{ExprBitXor, ExprBitAnd, ExprShift, ExprSum, ExprProduct, Body, Block}
-use Rattle.syn_grammar.specs.Words.{same_text, is_bool}
+use Rattle.syn_grammar.specs.Words.{is_bool}
+use Rattle.rust_leaf.specs.Keywords.{same_text}
 use Rattle.syn_grammar.specs.Tree.{Tree, AWord, ALiteral, Pair, First, Second, Group, Node, marks, flat}
 use Rattle.syn_grammar.specs.Gram.{Gram, word, mark, group, seq, ref}
 use Rattle.syn_grammar.specs.Look.{sees}

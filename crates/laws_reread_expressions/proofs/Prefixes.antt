@@ -7,7 +7,7 @@ use Rattle.proc_macro2.specs.Token.{Token, Ident, Punct}
 use Rattle.rust_leaf.specs.declared.punct.Spacing.{Spacing}
 use Rattle.rust_leaf.specs.declared.punct.Spacing.TheVariants.{Alone as Apart}
 use Rattle.syn_grammar.specs.Kind.{Position, Plain, InCondition, InArm, InStatement, ExprReference, ExprRawAddr}
-use Rattle.syn_grammar.specs.Words.{same_text, is_among}
+use Rattle.rust_leaf.specs.Keywords.{same_text, is_among}
 use Rattle.syn_grammar.specs.Tree.{Tree, AWord, AMark, Nil, Pair, First, Second}
 use Rattle.syn_grammar.specs.Gram.{mark}
 use Rattle.syn_grammar.specs.Look.{sees, ◌then◌, ◌or◌}

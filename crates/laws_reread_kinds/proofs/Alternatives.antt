@@ -10,8 +10,9 @@ use Rattle.syn_grammar.specs.Kind.{Kind, Position, Plain, AnyPath, FieldPatterns
 use Rattle.syn_grammar.specs.Kind.{LiteralPattern, OnePattern, Path, PathPattern}
 use Rattle.syn_grammar.specs.Kind.{RangeEnd, RangeToPattern, ReferencePattern, RestPattern, Segments, SlicePattern}
 use Rattle.syn_grammar.specs.Kind.{Pattern, TuplePattern, WildPattern}
-use Rattle.syn_grammar.specs.Words.{any_text, is_bool, is_ident, is_path_keyword, is_plain_name, is_reserved}
-use Rattle.syn_grammar.specs.Words.{same_text}
+use Rattle.syn_grammar.specs.Words.{any_text, is_bool, is_ident, is_path_keyword, is_plain_name}
+use Rattle.rust_leaf.specs.Keywords.{is_reserved}
+use Rattle.rust_leaf.specs.Keywords.{same_text}
 use Rattle.syn_grammar.specs.Tree.{Tree, AMark, AWord, Nil, Back, Pair, First, Second, Node, marks as signs, flat}
 use Rattle.syn_grammar.specs.Gram.{Gram, alt, judged, ref}
 use Rattle.syn_grammar.specs.Look.{Look, a_literal, a_quoted, a_word, behind as past, no, opens}

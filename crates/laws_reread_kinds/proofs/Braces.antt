@@ -14,7 +14,8 @@ use Rattle.rust_leaf.specs.declared.punct.Spacing.TheVariants.{Joint}
 use Rattle.syn_grammar.specs.Kind.{Kind, Position, Plain, InCondition, InArm, InStatement, AMacro, Delimited}
 use Rattle.syn_grammar.specs.Kind.{ExprBreak, ExprMacro, ExprRange, ExprReturn, ExprYield}
 use Rattle.syn_grammar.specs.Name.{the_indices, the_value}
-use Rattle.syn_grammar.specs.Words.{before_dot, behind_dots, plain_decimal, same_text, texts_of}
+use Rattle.syn_grammar.specs.Words.{before_dot, behind_dots, plain_decimal, texts_of}
+use Rattle.rust_leaf.specs.Keywords.{same_text}
 use Rattle.syn_grammar.specs.Kind.{AnyPath, Arguments, AtType, AType, Block, Body, Bound, BracketType}
 use Rattle.syn_grammar.specs.Kind.{DynType, ExprArray, ExprAsync, ExprAwait, ExprBlock, ExprCall, ExprCast, ExprConst}
 use Rattle.syn_grammar.specs.Kind.{ExprContinue, ExprField, ExprForLoop, ExprGroup, ExprIf, ExprIndex, ExprInfer}

@@ -3,7 +3,7 @@ use Rattle.std.proofs.Common.{◌≡◌, ℕ, List, ◌∷◌, refl, sym, ap, �
 use Rattle.std.specs.Prelude.{Bool, true, false, ◌⊎◌, ◌&&◌, ◌||◌, not, cond, Option, Some, None}
 use Rattle.std.proofs.lemmas.Slice.Eq.{bytes_eq-Decides}
 use Rattle.proc_macro2.specs.Token.{Token, Ident}
-use Rattle.syn_grammar.specs.Words.{same_text}
+use Rattle.rust_leaf.specs.Keywords.{same_text}
 use Rattle.syn_grammar.specs.Look.{first_seen, seen, sees, the_word}
 use Rattle.laws_reread_kinds.specs.Sees.{Lacks}
 

@@ -9,7 +9,8 @@ use Rattle.syn_grammar.specs.Kind.{AnyPath, AtType, AType, Path, Plain, Position
 use Rattle.syn_grammar.specs.Kind.{UnnamedField, Visibility, WithPlus}
 use Rattle.syn_grammar.specs.Tree.{Tree, AWord, End, Final, First, flat, Group, More, Nil, Node, Pair, Second}
 use Rattle.syn_grammar.specs.Gram.{ref}
-use Rattle.syn_grammar.specs.Words.{is_path_keyword, same_text}
+use Rattle.syn_grammar.specs.Words.{is_path_keyword}
+use Rattle.rust_leaf.specs.Keywords.{same_text}
 use Rattle.syn_grammar.specs.Look.{behind as past, closes, seen, sees, ◌or◌}
 use Rattle.syn_grammar.specs.Say.{many_to_end}
 use Rattle.syn_grammar.specs.Items.{restricted, restricted_in}

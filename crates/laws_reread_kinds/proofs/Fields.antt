@@ -14,7 +14,8 @@ use Rattle.syn_grammar.specs.Tree.{flat, marks as signs}
 use Rattle.syn_grammar.specs.Gram.{Gram, nothing, ref}
 use Rattle.syn_grammar.specs.Look.{Look, a_word, closes, one_of, seen, sees, behind as past, first_seen, the_word, ◌or◌}
 use Rattle.syn_grammar.specs.Look.{◌then◌}
-use Rattle.syn_grammar.specs.Words.{is_among, is_plain_name, is_path_keyword, is_reserved, same_text}
+use Rattle.syn_grammar.specs.Words.{is_plain_name, is_path_keyword}
+use Rattle.rust_leaf.specs.Keywords.{is_among, is_reserved, same_text}
 use Rattle.syn_grammar.specs.Say.{◌▸◌, at, in_parentheses, many_to_end, marks, parenthesis, refused, when◌read◌else◌}
 use Rattle.syn_grammar.specs.Items.{restricted, restricted_in, restriction}
 use Rattle.syn_grammar.specs.Types.{bound_stands}

@@ -8,7 +8,8 @@ use Rattle.proc_macro2.specs.declared.delimiter.Delimiter.{Delimiter}
 use Rattle.rust_leaf.specs.declared.punct.Spacing.TheVariants.{Alone as Apart}
 use Rattle.syn_grammar.specs.Kind.{Kind}
 use Rattle.syn_grammar.specs.Name.{Part}
-use Rattle.syn_grammar.specs.Words.{same_text, is_among, is_ident, is_plain_name}
+use Rattle.syn_grammar.specs.Words.{is_ident, is_plain_name}
+use Rattle.rust_leaf.specs.Keywords.{same_text, is_among}
 use Rattle.syn_grammar.specs.Say.{name}
 use Rattle.syn_grammar.specs.Tree.{Tree, AWord, ALiteral, AMark, ALifetime, Raw, Nil, Pair, First, Second, End}
 use Rattle.syn_grammar.specs.Tree.{Final, More, Group, Dropped, Called, Verbatim, Node, marks, flat}

@@ -13,7 +13,8 @@ use Rattle.syn_grammar.specs.Tree.{Tree, AMark, AWord, Called, First, Group, Nil
 use Rattle.syn_grammar.specs.Tree.{Verbatim, marks as signs, flat}
 use Rattle.syn_grammar.specs.Name.{Part, same_part, the_const, the_default}
 use Rattle.syn_grammar.specs.Part.{choice, found, has, is_some, or_else}
-use Rattle.syn_grammar.specs.Words.{is_among, is_ident, is_name, is_path_keyword, is_reserved, is_string, same_text}
+use Rattle.syn_grammar.specs.Words.{is_ident, is_name, is_path_keyword, is_string}
+use Rattle.rust_leaf.specs.Keywords.{is_among, is_reserved, same_text}
 use Rattle.syn_grammar.specs.Gram.{Gram, alt, never, raw, ref}
 use Rattle.syn_grammar.specs.Look.{Look, a_group, a_name, a_path, a_quoted, an_ident, behind, first_seen, maybe, no}
 use Rattle.syn_grammar.specs.Look.{repeatedly, seen, sees}

@@ -25,7 +25,8 @@ use Rattle.syn_grammar.specs.Tree.{marks, flat}
 use Rattle.syn_grammar.specs.Gram.{Gram, word, literal, mark, lifetime, raw, nothing, seq, alt, star, many, group}
 use Rattle.syn_grammar.specs.Gram.{judged, dropped, called, ref, operand, Verdict, Keep, is_balanced}
 use Rattle.syn_grammar.specs.Types.{is_path_bound}
-use Rattle.syn_grammar.specs.Words.{ends_in_dot, same_text}
+use Rattle.syn_grammar.specs.Words.{ends_in_dot}
+use Rattle.rust_leaf.specs.Keywords.{same_text}
 use Rattle.syn_grammar.specs.Table.{table}
 use Rattle.syn_grammar.specs.Derives.{Derives}
 use Rattle.syn_grammar.specs.Tidy.{begins_bracketed, is_absent, is_none}

@@ -10,7 +10,8 @@ use Rattle.syn_grammar.specs.Kind.{Kind, AForeignItem, AFunction, AStatic, AType
 use Rattle.syn_grammar.specs.Kind.{OuterAttributes, Plain, Position, Signature, Visibility}
 use Rattle.syn_grammar.specs.Name.{Part, same_part, the_body, the_bounds, the_item, the_safety, the_type, the_value}
 use Rattle.syn_grammar.specs.Name.{the_visibility}
-use Rattle.syn_grammar.specs.Words.{is_among, is_string, same_text, is_reserved}
+use Rattle.syn_grammar.specs.Words.{is_string}
+use Rattle.rust_leaf.specs.Keywords.{is_among, same_text, is_reserved}
 use Rattle.syn_grammar.specs.Tree.{Tree, ALiteral, AWord, Called, First, Nil, Node, Pair, Second, Verbatim, flat}
 use Rattle.syn_grammar.specs.Part.{changed, choice, found, has, or_else, or_nil, the}
 use Rattle.syn_grammar.specs.Gram.{Gram, Keep, alt, judged, literal, ref}

@@ -6,7 +6,8 @@ use Rattle.std.proofs.lemmas.Bool.{false≢true}
 use Prim.Native.String.{String}
 use Rattle.proc_macro2.specs.Token.{Token, Ident}
 use Rattle.syn_grammar.specs.Kind.{InForeign}
-use Rattle.syn_grammar.specs.Words.{is_ident, is_reserved, is_string, same_text}
+use Rattle.syn_grammar.specs.Words.{is_ident, is_string}
+use Rattle.rust_leaf.specs.Keywords.{is_reserved, same_text}
 use Rattle.syn_grammar.specs.Look.{Look, a_quoted, behind, first_seen, maybe, seen, ◌or◌, ◌then◌}
 use Rattle.syn_grammar.specs.Say.{at}
 use Rattle.syn_grammar.specs.Items.{maybe_safety, signature_stands}

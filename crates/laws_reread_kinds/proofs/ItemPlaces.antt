@@ -11,7 +11,7 @@ use Rattle.syn_grammar.specs.Kind.{AnExternCrate, AnImpl, InFile, ItemMacro}
 use Rattle.syn_grammar.specs.Name.{Part, same_part, the_const, the_default, the_safety}
 use Rattle.syn_grammar.specs.Tree.{Tree, First, Second, Nil, Node, Pair, Called, Verbatim, flat}
 use Rattle.syn_grammar.specs.Part.{choice, has, found, is_some, or_else}
-use Rattle.syn_grammar.specs.Words.{is_among, same_text}
+use Rattle.rust_leaf.specs.Keywords.{is_among, same_text}
 use Rattle.syn_grammar.specs.Gram.{Gram, alt, never, ref}
 use Rattle.syn_grammar.specs.Look.{Look, seen, sees, the_word, ◌or◌, ◌then◌, first_seen, maybe, no}
 use Rattle.syn_grammar.specs.Say.{at, keyword, marks, optional, ◌∶◌, ◌▸◌}

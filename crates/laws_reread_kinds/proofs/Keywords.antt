@@ -1,6 +1,6 @@
 -- Words that are reserved, and some that aren't. Written by tools/steps.py.
 use Rattle.std.specs.Prelude.{◌≡◌, refl, true, false, codes}
-use Rattle.syn_grammar.specs.Words.{is_reserved}
+use Rattle.rust_leaf.specs.Keywords.{is_reserved}
 
 pub free_of : is_reserved (codes "of") ≡ false
 unfolding is_reserved

@@ -10,7 +10,8 @@ use Rattle.rust_leaf.specs.declared.punct.Spacing.{Spacing}
 use Rattle.syn_grammar.specs.Kind.{Kind, InFile, InForeign, InModule, InTrait, ItemMacro, Path}
 use Rattle.syn_grammar.specs.Kind.{Place as ItemPlace, Plain, Position, Segments}
 use Rattle.syn_grammar.specs.Tree.{Tree, AMark, AWord, First, Nil, Node, Pair, Second, marks as signs, flat}
-use Rattle.syn_grammar.specs.Words.{is_ident, is_reserved, is_string, same_text}
+use Rattle.syn_grammar.specs.Words.{is_ident, is_string}
+use Rattle.rust_leaf.specs.Keywords.{is_reserved, same_text}
 use Rattle.syn_grammar.specs.Gram.{Gram}
 use Rattle.syn_grammar.specs.Look.{Look, a_group, a_quoted, an_ident, behind, first_seen, maybe, no, seen, sees, ◌or◌}
 use Rattle.syn_grammar.specs.Look.{◌then◌}

@@ -2,7 +2,7 @@
 use Rattle.std.specs.Prelude.{ℕ, Bool, true, false, ◌&&◌, ◌||◌, not, codes, List, []}
 use Rattle.syn_grammar.specs.Kind.{InForeign, InTrait, ItemMacro, Place}
 use Rattle.syn_grammar.specs.Tree.{Tree, AWord, First, Node, Pair, Second}
-use Rattle.syn_grammar.specs.Words.{same_text}
+use Rattle.rust_leaf.specs.Keywords.{same_text}
 
 abbrev pub first_word : Tree → List ℕ
 first_word (First (Pair (AWord cs) y)) = cs

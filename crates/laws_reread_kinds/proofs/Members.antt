@@ -30,7 +30,7 @@ use Rattle.laws_reread_kinds.proofs.MacroItems.{a_word_lacked, default_lacked, f
 use Rattle.laws_reread_kinds.proofs.MacroItems.{macro_front, macro_seen, no_default, place_lacks, plain_same}
 use Rattle.laws_reread_kinds.proofs.MacroItems.{with_listed}
 use Rattle.laws_reread_kinds.proofs.Sights.{ident_not}
-use Rattle.syn_grammar.specs.Words.{same_text, is_reserved}
+use Rattle.rust_leaf.specs.Keywords.{same_text, is_reserved}
 use Rattle.proc_macro2.specs.declared.delimiter.Delimiter.TheVariants.{Bracket}
 use Rattle.laws_reread_kinds.specs.Sees.{Lacks, LacksAll}
 use Rattle.laws_items.proofs.Stays.{item_stays}

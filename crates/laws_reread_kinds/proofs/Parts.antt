@@ -2,7 +2,8 @@
 use Rattle.std.proofs.Common.{◌≡◌, ℕ, List, [], ◌∷◌, ◌++◌, refl, sym, ap, ◌∙◌, subst, append_assoc, ⊎_elim, inl, inr}
 use Rattle.std.specs.Prelude.{Bool, true, false, ◌⊎◌, not, cond, codes, Option, Some, None}
 use Prim.Native.String.{String}
-use Rattle.syn_grammar.specs.Words.{is_among, is_ident}
+use Rattle.syn_grammar.specs.Words.{is_ident}
+use Rattle.rust_leaf.specs.Keywords.{is_among}
 use Rattle.syn_grammar.specs.Say.{keyword, name}
 use Rattle.proc_macro2.specs.Token.{Token, Punct}
 use Rattle.proc_macro2.specs.declared.delimiter.Delimiter.{Delimiter}

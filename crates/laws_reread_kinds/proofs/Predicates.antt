@@ -5,7 +5,7 @@ use Rattle.proc_macro2.specs.Token.{Token}
 use Rattle.proc_macro2.specs.declared.delimiter.Delimiter.TheVariants.{Parenthesis, Bracket}
 use Rattle.syn_grammar.specs.Kind.{Kind, Position, Plain, AType, AtType, BoundLifetimes, Bounds, FnPtrType}
 use Rattle.syn_grammar.specs.Kind.{Lifetimes, WherePredicate, WithPlus}
-use Rattle.syn_grammar.specs.Words.{same_text}
+use Rattle.rust_leaf.specs.Keywords.{same_text}
 use Rattle.syn_grammar.specs.Tree.{Tree, Nil, Pair, First, Second, Node, Back, flat}
 use Rattle.syn_grammar.specs.Part.{choice}
 use Rattle.syn_grammar.specs.Gram.{Gram, alt, judged, lifetime, ref}

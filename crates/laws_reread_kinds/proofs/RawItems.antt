@@ -13,7 +13,7 @@ use Rattle.syn_grammar.specs.Tree.{flat}
 use Rattle.syn_grammar.specs.Gram.{Gram, Verdict, alt, called, judged, never, nothing, ref, seq}
 use Rattle.syn_grammar.specs.Look.{Look, behind, no, seen, sees, the_end, ◌then◌}
 use Rattle.syn_grammar.specs.Say.{at, marks, ◌∶◌, ◌▸◌}
-use Rattle.syn_grammar.specs.Words.{same_text}
+use Rattle.rust_leaf.specs.Keywords.{same_text}
 use Rattle.std.proofs.lemmas.Slice.Eq.{bytes_eq-Decides}
 use Rattle.syn_grammar.specs.Name.{the_visibility}
 use Rattle.syn_grammar.specs.Table.{table}

@@ -8,7 +8,8 @@ use Rattle.syn_grammar.specs.Kind.{AMacroDefinition}
 use Rattle.syn_grammar.specs.Kind.{AnImpl, InFile, InForeign, InModule, InTrait, ItemMacro, Kind, Path, Place, Segments}
 use Rattle.syn_grammar.specs.Tree.{Tree, AWord, First, Nil, Node, Pair, Second, flat}
 use Rattle.syn_grammar.specs.Part.{choice}
-use Rattle.syn_grammar.specs.Words.{is_path_keyword, is_reserved, same_text}
+use Rattle.syn_grammar.specs.Words.{is_path_keyword}
+use Rattle.rust_leaf.specs.Keywords.{is_reserved, same_text}
 use Rattle.syn_grammar.specs.Gram.{Gram, alt, ref}
 use Rattle.syn_grammar.specs.Look.{Look, first_seen, no, seen, sees, ◌or◌, ◌then◌}
 use Rattle.syn_grammar.specs.Say.{at, marks, refused, when◌read◌else◌}

@@ -10,7 +10,7 @@ use Rattle.syn_grammar.specs.Kind.{Kind, Position, Plain, AnyPath, AType, AtType
 use Rattle.syn_grammar.specs.Kind.{OnePattern, OuterAttributes}
 use Rattle.syn_grammar.specs.Kind.{Parameter, Path, PathPattern, Receiver, ReferencePattern, Segments, WithPlus}
 use Rattle.syn_grammar.specs.Name.{Part, the_dots, the_pattern, the_receiver, the_type, the_unnamed}
-use Rattle.syn_grammar.specs.Words.{same_text}
+use Rattle.rust_leaf.specs.Keywords.{same_text}
 use Rattle.syn_grammar.specs.Tree.{Tree, ALifetime, AMark, AWord, Nil, Pair, First, Second, Called, Node, Back}
 use Rattle.syn_grammar.specs.Tree.{marks as signs, flat}
 use Rattle.syn_grammar.specs.Part.{choice}

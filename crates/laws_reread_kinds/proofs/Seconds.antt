@@ -8,7 +8,8 @@ use Rattle.proc_macro2.specs.declared.delimiter.Delimiter.{Delimiter}
 use Rattle.proc_macro2.specs.declared.delimiter.Delimiter.TheVariants.{Parenthesis, Bracket}
 use Rattle.rust_leaf.specs.declared.punct.Spacing.TheVariants.{Alone as Apart, Joint}
 use Rattle.rust_leaf.specs.declared.punct.Spacing.{Spacing}
-use Rattle.syn_grammar.specs.Words.{same_text, is_reserved, is_ident, is_path_keyword}
+use Rattle.syn_grammar.specs.Words.{is_ident, is_path_keyword}
+use Rattle.rust_leaf.specs.Keywords.{same_text, is_reserved}
 use Rattle.syn_grammar.specs.Kind.{InferType, AtType, Plus, WithPlus, Path, Segments, AnyPath, AType}
 use Rattle.syn_grammar.specs.Tree.{Tree, AWord, AMark, Nil, Pair, First, Second, Node, marks as signs, flat}
 use Rattle.syn_grammar.specs.Gram.{Gram, ref}

@@ -10,7 +10,8 @@ use Rattle.syn_grammar.specs.Kind.{Kind, AnyPath, IdentPattern, InExpression}
 use Rattle.syn_grammar.specs.Kind.{OnePattern, LiteralPattern, RangeToPattern, RestPattern}
 use Rattle.syn_grammar.specs.Kind.{SlicePattern, TuplePattern, WildPattern}
 use Rattle.syn_grammar.specs.Kind.{Path, PathPattern, ReferencePattern, Segments}
-use Rattle.syn_grammar.specs.Words.{any_text, is_bool, is_ident, same_text}
+use Rattle.syn_grammar.specs.Words.{any_text, is_bool, is_ident}
+use Rattle.rust_leaf.specs.Keywords.{same_text}
 use Rattle.syn_grammar.specs.Tree.{Tree, AMark, AWord, Nil, Pair, First, Second, Node}
 use Rattle.syn_grammar.specs.Tree.{marks as signs, flat}
 use Rattle.syn_grammar.specs.Part.{choice}

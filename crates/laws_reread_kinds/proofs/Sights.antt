@@ -2,7 +2,8 @@
 use Rattle.std.proofs.Common.{◌≡◌, ℕ, List, refl, sym, ap, ◌∙◌}
 use Rattle.std.specs.Prelude.{Bool, true, false, not}
 use Rattle.std.proofs.lemmas.Slice.Eq.{bytes_eq-Decides}
-use Rattle.syn_grammar.specs.Words.{same_text, is_reserved, is_ident}
+use Rattle.syn_grammar.specs.Words.{is_ident}
+use Rattle.rust_leaf.specs.Keywords.{same_text, is_reserved}
 
 reserved_not : (w cs : List ℕ) (b : Bool) → same_text w cs ≡ b → is_reserved w ≡ true → is_ident cs ≡ true → b ≡ false
 reserved_not w cs false e h i = refl

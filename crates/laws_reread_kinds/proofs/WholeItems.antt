@@ -8,7 +8,7 @@ use Rattle.syn_grammar.specs.Tree.{Tree, Called, First, Node, Pair, Verbatim, fl
 use Rattle.syn_grammar.specs.Part.{choice}
 use Rattle.syn_grammar.specs.Gram.{Gram, Keep, ref}
 use Rattle.syn_grammar.specs.Say.{at, ◌∶◌, ◌▸◌}
-use Rattle.syn_grammar.specs.Words.{same_text, is_reserved}
+use Rattle.rust_leaf.specs.Keywords.{same_text, is_reserved}
 use Rattle.syn_grammar.specs.Lists.{item_form}
 use Rattle.syn_grammar.specs.Verdicts.{form_in_file, is_public, item_verdict}
 use Rattle.syn_grammar.specs.Ranks.{skips}

@@ -32,7 +32,8 @@ use Rattle.syn_grammar.specs.Kind.{WildPattern, WithPlus, WithoutPlus}
 use Rattle.syn_grammar.specs.Tree.{Tree, AWord, Pair, First, Second, Again, Final, More, Group, Dropped, Called}
 use Rattle.syn_grammar.specs.Tree.{Verbatim}
 use Rattle.syn_grammar.specs.Tree.{Node, Whole, Alone, Front, Back, Infix, flat}
-use Rattle.syn_grammar.specs.Words.{is_among, is_ident, same_text}
+use Rattle.syn_grammar.specs.Words.{is_ident}
+use Rattle.rust_leaf.specs.Keywords.{is_among, same_text}
 use Rattle.syn_grammar.specs.Look.{a_lifetime, sees, ◌then◌, ◌or◌}
 use Rattle.syn_grammar.specs.Say.{at, marks}
 use Rattle.syn_grammar.specs.Normal.{normal, normal_in}

@@ -4,7 +4,7 @@ use Rattle.std.proofs.Common.{sym, subst}
 use Rattle.std.proofs.lemmas.Slice.Eq.{bytes_eq-Decides}
 use Rattle.syn_grammar.specs.Gram.{Gram, seq}
 use Rattle.syn_grammar.specs.Tree.{Tree, Pair}
-use Rattle.syn_grammar.specs.Words.{same_text}
+use Rattle.rust_leaf.specs.Keywords.{same_text}
 use Rattle.node_shapes.specs.Shape.{IsShaped}
 use Rattle.node_take.specs.Seqs.{is_seq}
 

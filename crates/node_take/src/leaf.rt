@@ -9,7 +9,7 @@ ghost use Rattle.std.specs.Prelude.{◌≡◌, Bool, IfOk, List, codes, false, �
 ghost use Rattle.syn_grammar.specs.Gram as g;
 ghost use Rattle.syn_grammar.specs.Kept.{kept};
 ghost use Rattle.syn_grammar.specs.Tree as t;
-ghost use Rattle.syn_grammar.specs.Words.{same_text};
+ghost use Rattle.rust_leaf.specs.Keywords.{same_text};
 ghost use Rattle.syn_kinds.specs.Table.{marks, word};
 
 use crate::choice::optional;

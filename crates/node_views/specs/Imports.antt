@@ -2,7 +2,7 @@
 use Rattle.std.specs.Prelude.{Option, Some, None, cond}
 use Rattle.rust_leaf.specs.Leaf.{ident_text}
 use Rattle.syn_grammar.specs.Tree.{Tree}
-use Rattle.syn_grammar.specs.Words.{is_among}
+use Rattle.rust_leaf.specs.Keywords.{is_among}
 use Rattle.syn_grammar.specs.Items.{use_words}
 use Rattle.syn_grammar.specs.Kind as k
 use Rattle.syn_grammar.specs.Name as n

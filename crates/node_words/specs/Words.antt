@@ -9,7 +9,7 @@ use Rattle.proc_macro2.specs.Token.{Spanned, plain}
 use Rattle.reader_tree.specs.Forms.{mark_of, seconds}
 use Rattle.syn_grammar.specs.Name.{Part}
 use Rattle.syn_grammar.specs.Tree.{Tree}
-use Rattle.syn_grammar.specs.Words.{same_text}
+use Rattle.rust_leaf.specs.Keywords.{same_text}
 use Rattle.syn_lists.specs.Lists.{values, separators}
 use Rattle.syn_grammar.specs.Kind as k
 use Rattle.syn_grammar.specs.Tree as t

@@ -10,7 +10,8 @@ use Rattle.syn_grammar.specs.Kind.{Delimited, InModule, Meta, OuterAttribute, Pa
 use Rattle.syn_grammar.specs.Run.{interp, mark_at, raw_at, run}
 use Rattle.syn_grammar.specs.Table.{table}
 use Rattle.syn_grammar.specs.Tree.{Tree, First, Nil, Second}
-use Rattle.syn_grammar.specs.Words.{is_name, is_path_keyword, is_reserved}
+use Rattle.syn_grammar.specs.Words.{is_name, is_path_keyword}
+use Rattle.rust_leaf.specs.Keywords.{is_reserved}
 use Rattle.reader_fast.specs.Attributes.{IsBehindPath, IsEntered, IsKept, IsOpened, attribute_of, delimited, meta_of}
 use Rattle.reader_fast.specs.Attributes.{value_of}
 use Rattle.reader_fast.specs.Names.{IsNamed}

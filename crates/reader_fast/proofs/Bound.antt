@@ -11,7 +11,8 @@ use Rattle.syn_grammar.specs.Run.{Got, loop, run, word_at}
 use Rattle.syn_grammar.specs.Say.{◌▸◌, marks, sign}
 use Rattle.syn_grammar.specs.Table.{table}
 use Rattle.syn_grammar.specs.Tree.{Tree, End, First, Nil, Node, Pair, Second}
-use Rattle.syn_grammar.specs.Words.{is_ident, is_reserved, same_text}
+use Rattle.syn_grammar.specs.Words.{is_ident}
+use Rattle.rust_leaf.specs.Keywords.{is_reserved, same_text}
 use Rattle.reader_fast.specs.Bindings.{IsBindingEnd, alternative, bound, only_alternative, only_pattern}
 use Rattle.reader_fast.specs.Read.{IsReadIn}
 use Rattle.reader_fast.proofs.Same.{as_read}

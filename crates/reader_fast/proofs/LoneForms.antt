@@ -22,7 +22,8 @@ use Rattle.syn_grammar.specs.Say.{marks}
 use Rattle.syn_grammar.specs.Table.{table}
 use Rattle.syn_grammar.specs.Tree.{Tree, Node, Whole}
 use Rattle.syn_grammar.specs.Tree as t
-use Rattle.syn_grammar.specs.Words.{is_bool, is_name, is_path_keyword, is_reserved, same_text}
+use Rattle.syn_grammar.specs.Words.{is_bool, is_name, is_path_keyword}
+use Rattle.rust_leaf.specs.Keywords.{is_reserved, same_text}
 use Rattle.syn_grammar.proofs.Whole.{and_true}
 use Rattle.reader_tokens.specs.Tokens.{tokens}
 use Rattle.reader_fast.specs.Lone.{IsOver, lone_literal, lone_path}

@@ -10,7 +10,7 @@ use Rattle.syn_grammar.specs.Run.{word_at}
 use Rattle.syn_grammar.specs.Say.{at, marks, parenthesis}
 use Rattle.syn_grammar.specs.Table.{table}
 use Rattle.syn_grammar.specs.Tree.{End, Node, Tree}
-use Rattle.syn_grammar.specs.Words.{same_text}
+use Rattle.rust_leaf.specs.Keywords.{same_text}
 use Rattle.reader_tokens.proofs.Marks.{none_marked, other_mark}
 use Rattle.reader_tokens.specs.Marks.{no_mark}
 use Rattle.reader_fast.specs.Absent.{IsToldBy, LacksMark, nothing, public}

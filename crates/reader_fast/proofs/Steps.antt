@@ -11,7 +11,8 @@ use Rattle.syn_grammar.specs.Run.{kind, mark_at, run, word_at}
 use Rattle.syn_grammar.specs.Say.{marks}
 use Rattle.syn_grammar.specs.Table.{table}
 use Rattle.syn_grammar.specs.Tree.{Tree}
-use Rattle.syn_grammar.specs.Words.{is_name, is_path_keyword, is_reserved}
+use Rattle.syn_grammar.specs.Words.{is_name, is_path_keyword}
+use Rattle.rust_leaf.specs.Keywords.{is_reserved}
 use Rattle.reader_fast.specs.Names.{IsFurther, IsLast, IsName, IsNamed, IsPassed, IsPathEnd, another_name}
 use Rattle.reader_fast.specs.Names.{further_segments, last_segment}
 use Rattle.reader_fast.specs.Names.{path_of, type_of, unqualified}

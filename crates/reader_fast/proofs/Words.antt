@@ -2,7 +2,8 @@
 use Rattle.std.proofs.Common.{◌≡◌, ℕ, List, refl, sym, ap, ◌∙◌}
 use Rattle.std.specs.Prelude.{Bool, true, false, ◌||◌, codes}
 use Rattle.std.proofs.lemmas.Slice.Eq.{bytes_eq-Decides}
-use Rattle.syn_grammar.specs.Words.{is_ident, is_name, is_path_keyword, is_plain_name, is_reserved, same_text}
+use Rattle.syn_grammar.specs.Words.{is_ident, is_name, is_path_keyword, is_plain_name}
+use Rattle.rust_leaf.specs.Keywords.{is_reserved, same_text}
 use Rattle.reader_fast.specs.Names.{IsName}
 use Rattle.reader_fast.specs.declared.names.Name.{Name}
 use Rattle.reader_fast.specs.declared.names.Name.TheVariants as names

@@ -12,7 +12,7 @@ ghost use Rattle.syn_grammar.specs.Kind as kind;
 ghost use Rattle.syn_grammar.specs.Name.{the_pub};
 ghost use Rattle.syn_grammar.specs.Say.{at as word_stands, parenthesis as opens_parenthesis};
 ghost use Rattle.syn_grammar.specs.Tree as t;
-ghost use Rattle.syn_grammar.specs.Words.{same_text};
+ghost use Rattle.rust_leaf.specs.Keywords.{same_text};
 
 use crate::parts::found;
 use reader_table::kind::Kind;

@@ -15,7 +15,8 @@ use Rattle.syn_grammar.specs.Forms as f
 use Rattle.syn_grammar.specs.Kind as k
 use Rattle.syn_grammar.specs.Look.{Look, an_ident, behind, past_literals, seen, sees, ◌or◌, ◌then◌}
 use Rattle.syn_grammar.specs.Say.{at, marks, parenthesis}
-use Rattle.syn_grammar.specs.Words.{ends_in_dot, is_ident, same_text}
+use Rattle.syn_grammar.specs.Words.{ends_in_dot, is_ident}
+use Rattle.rust_leaf.specs.Keywords.{same_text}
 use Rattle.reader_tokens.specs.Marks.{no_word}
 use Rattle.reader_tokens.specs.Tokens.{tokens}
 use Rattle.reader_tokens.proofs.Leaves.{none_word}

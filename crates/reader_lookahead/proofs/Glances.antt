@@ -19,7 +19,8 @@ use Rattle.syn_grammar.specs.Paths.{turbofish}
 use Rattle.syn_grammar.specs.Say.{at, brace, marks, parenthesis}
 use Rattle.syn_grammar.specs.Statements.{item_stands, item_words, macro_item_stands, macro_statement_stands}
 use Rattle.syn_grammar.specs.Types.{colon}
-use Rattle.syn_grammar.specs.Words.{any_text, is_among, is_bool, is_ident, is_name, is_reserved, is_string, same_text}
+use Rattle.syn_grammar.specs.Words.{any_text, is_bool, is_ident, is_name, is_string}
+use Rattle.rust_leaf.specs.Keywords.{is_among, is_reserved, same_text}
 use Rattle.reader_tokens.specs.Marks.{no_mark, no_word}
 use Rattle.reader_table.specs.Composites.{composite_of}
 use Rattle.reader_table.specs.declared.composite.Composite.{Composite}

@@ -2,7 +2,8 @@
 use Rattle.std.proofs.Common.{◌≡◌, ℕ, List, [], ◌∷◌, refl, sym, ap, ◌∙◌}
 use Rattle.std.specs.Prelude.{Bool, true, false, ◌||◌, not, codes}
 use Rattle.std.proofs.lemmas.Slice.Eq.{bytes_eq-Decides}
-use Rattle.syn_grammar.specs.Words.{is_among, is_bool, is_ident, is_name, is_path_keyword, is_reserved, same_text}
+use Rattle.syn_grammar.specs.Words.{is_bool, is_ident, is_name, is_path_keyword}
+use Rattle.rust_leaf.specs.Keywords.{is_among, is_reserved, same_text}
 use Rattle.reader_lookahead.specs.Words.{begins_form, early_words, late_words}
 
 pub either_no : (a b : Bool) → (a || b) ≡ false → (a ≡ false) × (b ≡ false)

@@ -4,7 +4,7 @@ use Rattle.std.specs.Prelude.{Bool, true, false, ◌||◌, cond, Option, Some, N
 use Rattle.proc_macro2.specs.Token.{Token, Opens, Closes, Ident, Literal, Punct}
 use Rattle.syn_grammar.specs.Look.{Look, ◌then◌, ◌or◌, behind, first_seen, no, one_of, seen, sees}
 use Rattle.syn_grammar.specs.Say.{at}
-use Rattle.syn_grammar.specs.Words.{same_text}
+use Rattle.rust_leaf.specs.Keywords.{same_text}
 use Rattle.reader_lookahead.specs.Words.{pointer_words}
 
 -- nothing where it may see nothing

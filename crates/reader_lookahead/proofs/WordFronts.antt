@@ -9,7 +9,8 @@ use Rattle.syn_grammar.specs.Kind as k
 use Rattle.syn_grammar.specs.Look.{Look, behind, first_seen, seen, sees, a_name, the_mark, the_word, repeatedly}
 use Rattle.syn_grammar.specs.Look.{◌then◌, ◌or◌, no, a_lifetime}
 use Rattle.syn_grammar.specs.Say.{at, brace, marks}
-use Rattle.syn_grammar.specs.Words.{is_among, is_bool, is_name, same_text}
+use Rattle.syn_grammar.specs.Words.{is_bool, is_name}
+use Rattle.rust_leaf.specs.Keywords.{is_among, same_text}
 use Rattle.reader_tokens.specs.Marks.{no_mark}
 use Rattle.reader_lookahead.specs.Words.{begins_form, early_words, late_words}
 use Rattle.reader_lookahead.proofs.Reserved.{either_no}

@@ -1,6 +1,7 @@
 -- Words that begin forms.
 use Rattle.std.specs.Prelude.{ℕ, Bool, ◌||◌, List, [], ◌∷◌, codes}
-use Rattle.syn_grammar.specs.Words.{is_among, is_bool, is_ident, is_reserved}
+use Rattle.syn_grammar.specs.Words.{is_bool, is_ident}
+use Rattle.rust_leaf.specs.Keywords.{is_among, is_reserved}
 
 -- The words that begin a form of expressions, but for names, true and false: in two lists, each of which is tested
 -- at once.

@@ -16,7 +16,8 @@ ghost use Rattle.syn_grammar.specs.Forms.{back, brace_ends, first_form, front, h
 ghost use Rattle.syn_grammar.specs.Forms.{range_is_open, repeat_stands};
 ghost use Rattle.syn_grammar.specs.Look.{no, sees, ◌or◌, ◌then◌};
 ghost use Rattle.syn_grammar.specs.Say.{marks, parenthesis};
-ghost use Rattle.syn_grammar.specs.Words.{is_among, is_name, same_text};
+ghost use Rattle.syn_grammar.specs.Words.{is_name};
+ghost use Rattle.rust_leaf.specs.Keywords.{is_among, same_text};
 
 use crate::look::look;
 use proc_macro2::delimiter::Delimiter;

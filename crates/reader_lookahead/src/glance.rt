@@ -13,7 +13,8 @@ ghost use Rattle.reader_table.specs.declared.composite.Composite.TheVariants.{Id
 ghost use Rattle.std.specs.Prelude.{◌≡◌, [], IfSome, None, Some, false, true};
 ghost use Rattle.syn_grammar.specs.Look.{◌then◌, a_quoted, a_word, one_of, past_marks, sees, the_word};
 ghost use Rattle.syn_grammar.specs.Look as l;
-ghost use Rattle.syn_grammar.specs.Words.{any_text, is_bool, is_reserved};
+ghost use Rattle.syn_grammar.specs.Words.{any_text, is_bool};
+ghost use Rattle.rust_leaf.specs.Keywords.{is_reserved};
 
 use proc_macro2::delimiter::Delimiter;
 use reader_table::composite::Composite;

@@ -1,6 +1,7 @@
 -- The words, literals and punctuations of which entries speak, by their texts.
 use Rattle.std.specs.Prelude.{ℕ, Bool, List, [], ◌∷◌, codes}
-use Rattle.syn_grammar.specs.Words.{same_text, is_among, is_ident, is_name, is_plain_name, is_path_keyword, is_bool}
+use Rattle.syn_grammar.specs.Words.{is_ident, is_name, is_plain_name, is_path_keyword, is_bool}
+use Rattle.rust_leaf.specs.Keywords.{same_text, is_among}
 use Rattle.syn_grammar.specs.Words.{any_text, is_number, is_string, is_index, are_indices, ends_in_dot}
 use Rattle.syn_grammar.specs.Items.{use_words}
 use Rattle.syn_grammar.specs.Statements.{item_words}

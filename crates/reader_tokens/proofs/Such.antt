@@ -5,7 +5,7 @@ use Rattle.std.specs.List.{list_all}
 use Rattle.std.specs.Str.{bytes_eq, chars}
 use Rattle.std.proofs.lemmas.Bool.{eq-eqb}
 use Rattle.std.proofs.lemmas.Slice.Eq.{bytes_eq-Decides}
-use Rattle.syn_grammar.specs.Words.{is_among, is_reserved, reserved, same_text}
+use Rattle.rust_leaf.specs.Keywords.{is_among, is_reserved, reserved, same_text}
 use Rattle.reader_tokens.specs.Such.{is_either, is_such, neither}
 use Rattle.reader_tokens.proofs.Nested.{both, both_true}
 

@@ -3,8 +3,7 @@ use Rattle.std.proofs.Common.{◌≡◌, ℕ, List, refl, sym, ap, ◌∙◌}
 use Rattle.std.specs.Prelude.{Bool, true, false, ◌↔◌, IsTrue, codes}
 use Rattle.std.specs.Str.{bytes_eq, chars}
 use Rattle.std.proofs.lemmas.Slice.Eq.{bytes_eq-Decides}
-use Rattle.syn_grammar.specs.Words as words
-use Rattle.syn_kinds.specs.Table as kinds
+use Rattle.rust_leaf.specs.Keywords.{same_text}
 use Rattle.reader_table.specs.Words.{keyword_text}
 use Rattle.reader_table.specs.declared.word.Keyword.{Keyword}
 use Rattle.reader_table.specs.declared.word.Keyword.TheVariants as keywords
@@ -58,13 +57,8 @@ keyword_chars keywords.Await = refl
 keyword_chars keywords.Super = refl
 keyword_chars keywords.SelfType = refl
 
--- which words are reserved
-pub same_reserved : (cs : List ℕ) → words.is_reserved cs ≡ kinds.is_reserved cs
-unfolding words.is_reserved kinds.is_reserved kinds.kept_words
-same_reserved cs = refl
-
 -- a comparison answers whether two texts are one
-pub compared : (b : Bool) (cs ds : List ℕ) → (IsTrue b ↔ (ds ≡ cs)) → b ≡ words.same_text cs ds
+pub compared : (b : Bool) (cs ds : List ℕ) → (IsTrue b ↔ (ds ≡ cs)) → b ≡ same_text cs ds
 compared b cs ds h = both b (bytes_eq cs ds) (λ e. (bytes_eq-Decides cs ds).1 (sym (h.0 e)))
     (λ e. h.1 (sym ((bytes_eq-Decides cs ds).0 e)))
   where
@@ -75,7 +69,7 @@ compared b cs ds h = both b (bytes_eq cs ds) (λ e. (bytes_eq-Decides cs ds).1 (
     both false true f g = g refl
 
 -- what a test lets pass wherever two texts are one tells that they aren't
-pub another : (b : Bool) (cs ds : List ℕ) → (ds ≡ cs → b ≡ true) → b ≡ false → false ≡ words.same_text cs ds
+pub another : (b : Bool) (cs ds : List ℕ) → (ds ≡ cs → b ≡ true) → b ≡ false → false ≡ same_text cs ds
 another b cs ds h e = by (bytes_eq cs ds) refl
   where
     by : (c : Bool) → bytes_eq cs ds ≡ c → false ≡ c
@@ -83,16 +77,16 @@ another b cs ds h e = by (bytes_eq cs ds) refl
     by true f = sym e ∙ h (sym ((bytes_eq-Decides cs ds).0 f))
 
 -- a word that a keyword's text is compared with
-pub is_word : (k : Keyword) (w cs : List ℕ) (b : Bool) → w ≡ keyword_text k → b ≡ words.same_text (chars w) cs
-    → b ≡ words.same_text (keyword_text k) cs
+pub is_word : (k : Keyword) (w cs : List ℕ) (b : Bool) → w ≡ keyword_text k → b ≡ same_text (chars w) cs
+    → b ≡ same_text (keyword_text k) cs
 is_word k w cs b e f =
-    f ∙ ap (λ x. words.same_text (chars x) cs) e ∙ ap (λ x. words.same_text x cs) (keyword_chars k)
+    f ∙ ap (λ x. same_text (chars x) cs) e ∙ ap (λ x. same_text x cs) (keyword_chars k)
 
 -- true and false
-pub true_chars : (cs : List ℕ) → words.same_text (chars (codes "true")) cs ≡ words.same_text (codes "true") cs
+pub true_chars : (cs : List ℕ) → same_text (chars (codes "true")) cs ≡ same_text (codes "true") cs
 unfolding chars
 true_chars cs = refl
 
-pub false_chars : (cs : List ℕ) → words.same_text (chars (codes "false")) cs ≡ words.same_text (codes "false") cs
+pub false_chars : (cs : List ℕ) → same_text (chars (codes "false")) cs ≡ same_text (codes "false") cs
 unfolding chars
 false_chars cs = refl

@@ -1,6 +1,6 @@
 -- Words by their first character and their length.
 use Rattle.std.specs.Prelude.{ℕ, Bool, true, false, ◌==◌, ◌&&◌, ◌||◌, cond, List, [], ◌∷◌, length}
-use Rattle.syn_grammar.specs.Words.{same_text}
+use Rattle.rust_leaf.specs.Keywords.{same_text}
 
 -- The word passes, if it begins with that character and has so many.
 abbrev pub is_such : ℕ → ℕ → (List ℕ → Bool) → List ℕ → Bool

@@ -8,8 +8,9 @@ ghost use Rattle.rust_leaf.specs.Leaf.{ident_text};
 ghost use Rattle.std.specs.Prelude.{◌≡◌, IfSome, codes, true};
 ghost use Rattle.std.specs.Str.{chars};
 ghost use Rattle.syn_grammar.specs.Look.{a_word, sees};
-ghost use Rattle.syn_grammar.specs.Words.{is_among, is_bool, is_ident, is_name, is_path_keyword, is_plain_name};
-ghost use Rattle.syn_grammar.specs.Words.{same_text};
+ghost use Rattle.syn_grammar.specs.Words.{is_bool, is_ident, is_name, is_path_keyword, is_plain_name};
+ghost use Rattle.rust_leaf.specs.Keywords.{is_among};
+ghost use Rattle.rust_leaf.specs.Keywords.{same_text};
 
 use crate::reserved::is_reserved;
 use crate::sign::first_ident;

@@ -5,13 +5,13 @@ ghost use Rattle.rust_leaf.specs.Leaf.{ident_text};
 ghost use Rattle.std.specs.List.{list_all};
 ghost use Rattle.std.specs.Prelude.{◌≡◌, ◌&&◌, IfNone, IfSome, true};
 ghost use Rattle.std.specs.Str.{chars};
-ghost use Rattle.syn_grammar.specs.Words.{is_reserved, reserved};
+ghost use Rattle.rust_leaf.specs.Keywords.{is_reserved, reserved};
 
 use rust_leaf::ident::Ident;
 
 // The reserved words that begin with the byte and have so many: none, one twice, or two.
 #[inline(always)]
-#[tactic(auto, unfolding(syn_grammar::specs::Words::is_reserved))]
+#[tactic(auto, unfolding(rust_leaf::specs::Keywords::is_reserved))]
 fn such(first: u8, length: usize) -> Option<(&'static str, &'static str)>
     ensures none { IfNone result (list_all (is_such first length neither) reserved ≡ true) }
     ensures some { IfSome result

@@ -8,7 +8,7 @@ use Rattle.std.proofs.lemmas.Bool.{and_parts, and_from, and_right, or_left, or_r
 use Rattle.std.proofs.lemmas.List.{append-nil}
 use Rattle.unicode_ident.proofs.Computing.{unicode_ident}
 use Rattle.unicode_ident.specs.Ident.{is_xid_continue}
-use Rattle.rust_leaf.specs.Identifier.{is_identifier, is_reserved, is_raw_identifier, is_ident_text}
+use Rattle.rust_leaf.specs.Identifier.{is_identifier, is_never_raw, is_raw_identifier, is_ident_text}
 use Rattle.rust_lex.specs.Chars.{is_first, is_next, begins, passes, is_quote_or_hash}
 use Rattle.rust_lex.specs.Quoted.{opener_of}
 use Rattle.rust_lex.specs.Word.{IsWord, IsRawWord, begins_word, begins_kept}
@@ -67,7 +67,7 @@ word_same (d ∷ w) [] h = refl
 word_same (d ∷ w) (c ∷ cs) h = let (_, b) =
     and_parts (is_next c) (passes is_next cs) h in ap (λ r. c == d && r) (word_same w cs b)
 
-kept_same : (cs : List ℕ) → passes is_next cs ≡ true → begins_kept cs ≡ is_reserved cs
+kept_same : (cs : List ℕ) → passes is_next cs ≡ true → begins_kept cs ≡ is_never_raw cs
 unfolding begins_kept
 kept_same cs h = rw (
   word_same (95 ∷ []) cs h,
@@ -86,9 +86,9 @@ raw_is : (cs : List ℕ) → is_raw_identifier cs ≡ true → IsRawWord cs []
 raw_is [] h = cc
 raw_is (c ∷ []) h = cc
 raw_is (c ∷ d ∷ cs) h =
-    let (a, b) = and_parts (c == 114 && d == 35) (is_identifier cs && not (is_reserved cs)) h in
+    let (a, b) = and_parts (c == 114 && d == 35) (is_identifier cs && not (is_never_raw cs)) h in
     let (r, s) = and_parts (c == 114) (d == 35) a in
-    let (i, n) = and_parts (is_identifier cs) (not (is_reserved cs)) b in
+    let (i, n) = and_parts (is_identifier cs) (not (is_never_raw cs)) b in
     let w = word_is cs i in
     let x = eqb-true c 114 r in
     let y = eqb-true d 35 s in
@@ -96,7 +96,7 @@ raw_is (c ∷ d ∷ cs) h =
 
 raw_text : (cs : List ℕ) → IsRawWord cs [] → is_raw_identifier cs ≡ true
 raw_text cs (name, e, w, k) =
-    ap is_raw_identifier e ∙ and_from (is_identifier name) (not (is_reserved name)) (identifier_is name w)
+    ap is_raw_identifier e ∙ and_from (is_identifier name) (not (is_never_raw name)) (identifier_is name w)
     (ap not (sym (kept_same name (word_next name w)) ∙ sym (ap begins_kept (append-nil name)) ∙ k))
 
 pub ident_text_is : (cs : List ℕ) → is_ident_text cs ≡ true ↔ IsIdent cs []

@@ -13,7 +13,7 @@ use Rattle.unicode_ident.specs.Ident.{is_xid_continue}
 use Rattle.std.specs.Prelude.{cond, Option, Some, None, length, ◌==◌}
 use Rattle.rust_leaf.specs.declared.ident.IdentFault.{IdentFault}
 use Rattle.rust_leaf.specs.declared.ident.IdentFault.TheVariants.{Empty, Number, Invalid, Reserved}
-use Rattle.rust_leaf.specs.Identifier.{begins_identifier, is_identifier, is_reserved, is_number, refusal}
+use Rattle.rust_leaf.specs.Identifier.{begins_identifier, is_identifier, is_never_raw, is_number, refusal}
 use Rattle.rust_leaf.specs.Identifier.{refusal_of_raw, is_ident_text, or_else}
 use Rattle.rust_leaf.proofs.Texts.{bytes_eq-chars, chars_behind, ascii_word}
 
@@ -35,7 +35,7 @@ or_five false false false false false = refl
 
 pub reserved_texts : (bs : List ℕ) → IsUtf8 bs
     → ((((bytes_eq bs (codes "_") || bytes_eq bs (codes "super")) || bytes_eq bs (codes "self"))
-    || bytes_eq bs (codes "Self")) || bytes_eq bs (codes "crate")) ≡ is_reserved (chars bs)
+    || bytes_eq bs (codes "Self")) || bytes_eq bs (codes "crate")) ≡ is_never_raw (chars bs)
 reserved_texts bs u =
     or_five (bytes_eq bs (codes "_")) (bytes_eq bs (codes "super")) (bytes_eq bs (codes "self"))
     (bytes_eq bs (codes "Self")) (bytes_eq bs (codes "crate"))
@@ -80,12 +80,12 @@ identifier_text cs e = rw (accepted_identifier cs e) refl
 
 pub raw_identifier_text : (cs : List ℕ) → refusal_of_raw cs ≡ None → IsTrue (is_ident_text (codes "r#" ++ cs))
 raw_identifier_text cs e =
-    let h = accepted_raw (refusal cs) (is_reserved cs) e in
+    let h = accepted_raw (refusal cs) (is_never_raw cs) e in
     rw (accepted_identifier cs h.0, h.1) (or_right (is_identifier (codes "r#" ++ cs)) true refl)
 
 -- a raw identifier that has been put together
 pub raw_printed : (bs mark text : List ℕ) → mark ≡ codes "r#" → text ≡ mark ++ bs → None ≡ refusal (chars bs)
-    → false ≡ is_reserved (chars bs) → IsTrue (is_ident_text (chars text))
+    → false ≡ is_never_raw (chars bs) → IsTrue (is_ident_text (chars text))
 raw_printed bs mark text m t f r =
     let e : refusal_of_raw (chars bs) ≡ None = rw (sym f, sym r) refl in
     rw (raw_text bs mark text m t) (raw_identifier_text (chars bs) e)

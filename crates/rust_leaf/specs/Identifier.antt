@@ -25,12 +25,12 @@ is_number cs = list_all is_ascii_digit cs
 abbrev pub never_raw : List (List ℕ)
 never_raw = codes "_" ∷ codes "super" ∷ codes "self" ∷ codes "Self" ∷ codes "crate" ∷ []
 
-abbrev pub is_reserved : List ℕ → Bool
-is_reserved cs = list_any (λ word. bytes_eq cs word) never_raw
+abbrev pub is_never_raw : List ℕ → Bool
+is_never_raw cs = list_any (λ word. bytes_eq cs word) never_raw
 
 -- r# and then an identifier that may stand behind it
 abbrev pub is_raw_identifier : List ℕ → Bool
-is_raw_identifier (c ∷ d ∷ cs) = (c == 114 && d == 35) && (is_identifier cs && not (is_reserved cs))
+is_raw_identifier (c ∷ d ∷ cs) = (c == 114 && d == 35) && (is_identifier cs && not (is_never_raw cs))
 is_raw_identifier _ = false
 
 -- the text of an identifier as it is printed
@@ -49,7 +49,7 @@ or_else None other = other
 
 -- and what refuses it behind r#
 abbrev pub refusal_of_raw : List ℕ → Option IdentFault
-refusal_of_raw cs = or_else (refusal cs) (cond (is_reserved cs) (Some Reserved) None)
+refusal_of_raw cs = or_else (refusal cs) (cond (is_never_raw cs) (Some Reserved) None)
 
 -- the fault of a call that fails: what refuses the text, or else that there is no memory
 abbrev pub fault_of : Option IdentFault → IdentFault

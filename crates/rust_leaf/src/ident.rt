@@ -1,6 +1,6 @@
 //! Identifiers.
 
-ghost use Rattle.rust_leaf.specs.Identifier.{fault_of, is_ident_text, is_identifier, is_number, is_reserved};
+ghost use Rattle.rust_leaf.specs.Identifier.{fault_of, is_ident_text, is_identifier, is_number, is_never_raw};
 ghost use Rattle.rust_leaf.specs.Identifier.{refusal, refusal_of_raw};
 ghost use Rattle.rust_leaf.specs.LeafText.{leaf_bytes};
 ghost use Rattle.rust_leaf.specs.declared.ident.IdentFault.TheVariants.{Memory};
@@ -100,8 +100,8 @@ fn refusal(text: &str) -> Option<IdentFault>
 }
 
 // Whether no `r#` may stand before a text.
-fn is_reserved(text: &str) -> bool
-    ensures { result ≡ is_reserved (chars text.now) }
+fn is_never_raw(text: &str) -> bool
+    ensures { result ≡ is_never_raw (chars text.now) }
 {
     (text == "_") | (text == "super") | (text == "self") | (text == "Self") | (text == "crate")
 }
@@ -141,7 +141,7 @@ impl Ident {
     {
         match refusal(text) {
             Some(fault) => Err(fault),
-            None if is_reserved(text) => Err(IdentFault::Reserved),
+            None if is_never_raw(text) => Err(IdentFault::Reserved),
             None => {
                 let mut printed = String::from_str(alloc, "r#")?;
                 printed.push_str(text)?;

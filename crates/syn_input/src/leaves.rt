@@ -59,7 +59,7 @@ impl Parse for Ident {
     ghost use Rattle.rust_leaf.specs.Leaf.{ident_text};
     ghost use Rattle.std.specs.Prelude.{◌∷◌, ◌≡◌, false};
     ghost use Rattle.syn_kinds.specs.Stands.{ident_stands};
-    ghost use Rattle.syn_kinds.specs.Table.{is_reserved};
+    ghost use Rattle.rust_leaf.specs.Keywords.{is_reserved};
     ghost use Rattle.syn_buffer.specs.Leaves.{ident_token};
 
     ghost reads = { λ ts x us. (ts ≡ ident_token x ∷ us) × (is_reserved (ident_text x) ≡ false) };

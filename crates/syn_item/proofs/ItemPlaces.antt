@@ -9,7 +9,7 @@ use Rattle.syn_grammar.specs.Tree.{Tree}
 use Rattle.syn_grammar.specs.Items.{safety}
 use Rattle.syn_grammar.specs.Look.{sees, ◌or◌}
 use Rattle.syn_grammar.specs.Say.{at}
-use Rattle.syn_grammar.specs.Words.{is_among, same_text}
+use Rattle.rust_leaf.specs.Keywords.{is_among, same_text}
 use Rattle.syn_part.specs.Shape.{IsShaped}
 
 pub no_safety : (x : Tree) → ((t : List Token → Bool) (p : List ℕ → Bool)

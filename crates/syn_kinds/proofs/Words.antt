@@ -10,7 +10,8 @@ use Rattle.std.proofs.lemmas.Slice.Eq.{bytes_eq-Decides}
 use Rattle.std.specs.Prelude.{◌∷◌, encode_utf8_all, take}
 use Rattle.std.proofs.lemmas.Str.{encodes-IsAscii}
 use Rattle.syn_kinds.proofs.Rows.{and_true, is_plain, plain_ascii}
-use Rattle.syn_kinds.specs.Table.{begins, kept_words, same_text, word, words}
+use Rattle.syn_kinds.specs.Table.{begins, kept_words, word, words}
+use Rattle.rust_leaf.specs.Keywords.{is_reserved, same_text}
 
 both_ways : (a b : Bool) → (a ≡ true → b ≡ true) → (b ≡ true → a ≡ true) → a ≡ b
 both_ways true b f g = sym (f refl)
@@ -23,6 +24,11 @@ pub text_same : (b : Bool) (w cs : List ℕ) → (b ≡ true → cs ≡ chars w)
 text_same b w cs f g =
     both_ways b (bytes_eq (chars w) cs) (λ e. (bytes_eq-Decides (chars w) cs).1 (sym (f e)))
     (λ e. g (sym ((bytes_eq-Decides (chars w) cs).0 e)))
+
+-- what names nothing is _, or one of the rows
+pub reserved_is : (cs : List ℕ) → is_reserved cs ≡ (same_text (codes "_") cs || list_any (λ w. same_text w cs) kept_words)
+unfolding is_reserved kept_words
+reserved_is cs = refl
 
 kept_count : length kept_words ≡ 51
 unfolding kept_words

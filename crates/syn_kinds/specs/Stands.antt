@@ -5,7 +5,7 @@ use Rattle.proc_macro2.specs.Token.{Token, Opens, Ident, Literal, Punct}
 use Rattle.proc_macro2.specs.declared.delimiter.Delimiter.{Delimiter}
 use Rattle.rust_leaf.specs.declared.punct.Spacing.{Spacing}
 use Rattle.rust_leaf.specs.declared.punct.Spacing.TheVariants.{Alone, Joint}
-use Rattle.syn_kinds.specs.Table.{is_reserved, same_text}
+use Rattle.rust_leaf.specs.Keywords.{is_reserved, same_text}
 
 -- a word: an identifier of that text; that of a raw one begins with r#
 abbrev pub word_stands : List ℕ → List Token → Bool

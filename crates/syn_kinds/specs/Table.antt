@@ -9,16 +9,9 @@ use Rattle.rust_leaf.specs.Keywords.{keywords}
 abbrev pub words : List (List ℕ)
 words = keywords ++ codes "auto" ∷ codes "default" ∷ codes "raw" ∷ codes "safe" ∷ codes "union" ∷ []
 
--- two texts have the same characters
-abbrev pub same_text : List ℕ → List ℕ → Bool
-same_text cs ds = bytes_eq cs ds
-
--- no name: _, or one of the first 51 words
+-- the first 51 words, which are no names
 unfoldable pub kept_words : List (List ℕ)
 kept_words = keywords
-
-unfoldable pub is_reserved : List ℕ → Bool
-is_reserved cs = same_text (codes "_") cs || list_any (λ word. same_text word cs) kept_words
 
 -- a word begins with that byte
 abbrev pub begins : ℕ → List ℕ → Bool

@@ -7,7 +7,8 @@ ghost use Rattle.rust_leaf.specs.Mark.{is_mark};
 ghost use Rattle.std.specs.Prelude.{[], ◌<◌, ◌≡◌, ◌≤◌, IsTrue, drop, false, get_or, length, take};
 ghost use Rattle.std.specs.List.{list_any};
 ghost use Rattle.std.specs.Str.{chars};
-ghost use Rattle.syn_kinds.specs.Table.{begins, is_reserved, kept_words, quoted, same_text, sign, texts, word};
+ghost use Rattle.syn_kinds.specs.Table.{begins, kept_words, quoted, sign, texts, word};
+ghost use Rattle.rust_leaf.specs.Keywords.{is_reserved, same_text};
 
 use rust_leaf::ident::Ident;
 
@@ -178,7 +179,7 @@ fn is_kept(ident: &Ident) -> bool
 }
 
 /// Whether an identifier is no name: one of the first 51 words, or `_`. A raw one is a name.
-#[tactic(auto, using(crate::proofs::Rows::underscore_chars), unfolding(crate::specs::Table::is_reserved))]
+#[tactic(auto, using(crate::proofs::Rows::underscore_chars, crate::proofs::Words::reserved_is))]
 pub fn is_reserved(ident: &Ident) -> bool
     ensures { result ≡ is_reserved (ident_text ident.now) }
 {

@@ -6,7 +6,7 @@ use Rattle.rust_lex.specs.declared.piece.LiteralKind.TheVariants.{Int}
 use Rattle.rust_leaf.specs.Leaf.{ident_span, ident_text}
 use Rattle.proc_macro2.specs.Flat.{spanned}
 use Rattle.proc_macro2.specs.Token.{Token, Spanned, Ident, Literal}
-use Rattle.syn_kinds.specs.Table.{is_reserved}
+use Rattle.rust_leaf.specs.Keywords.{is_reserved}
 use Rattle.syn_kinds.specs.Stands.{word_stands}
 use Rattle.syn_leaf.specs.Integers.{int_suffix, int_value}
 use Rattle.syn_leaf.specs.Kinds.{IsKind}

@@ -6,7 +6,7 @@ use Rattle.syn_data.specs.declared.item.StaticMutability.{StaticMutability}
 use Rattle.syn_data.specs.declared.item.StaticMutability.TheVariants as mutabilities
 use Rattle.syn_grammar.specs.Look.{Look}
 use Rattle.syn_grammar.specs.Say.{at}
-use Rattle.syn_grammar.specs.Words.{same_text}
+use Rattle.rust_leaf.specs.Keywords.{same_text}
 use Rattle.syn_item.specs.declared.function.Safety.{Safety}
 use Rattle.syn_item.specs.declared.function.Safety.TheVariants as safeties
 use Rattle.syn_read.specs.Reading.{NoWord, StandsWord, left}

@@ -5,7 +5,8 @@ use Rattle.proc_macro2.specs.Token.{Token, Opens, Ident, Literal, Punct}
 use Rattle.proc_macro2.specs.declared.delimiter.Delimiter.TheVariants.{Brace}
 use Rattle.proc_macro2.specs.Groups.{same_delimiter}
 use Rattle.rust_leaf.specs.declared.punct.Spacing.TheVariants.{Alone as Apart, Joint}
-use Rattle.syn_grammar.specs.Words.{same_text, any_text}
+use Rattle.syn_grammar.specs.Words.{any_text}
+use Rattle.rust_leaf.specs.Keywords.{same_text}
 use Rattle.syn_grammar.specs.Kind.{Kind, Position, Plain, InCondition, InArm, InStatement, ExprBreak, ExprReturn}
 use Rattle.syn_grammar.specs.Kind.{ExprYield, ExprRange, ExprPath}
 use Rattle.syn_grammar.specs.Name.{the_label}

@@ -5,7 +5,8 @@ use Rattle.std.specs.Prelude.{true, false, codes, ◌==◌}
 use Rattle.proc_macro2.specs.Token.{Token, Ident}
 use Rattle.writer_print.specs.Pieces.{piece_token}
 use Rattle.writer_print.specs.declared.piece.Piece.{Piece}
-use Rattle.syn_grammar.specs.Words.{is_name, is_path_keyword, is_reserved}
+use Rattle.syn_grammar.specs.Words.{is_name, is_path_keyword}
+use Rattle.rust_leaf.specs.Keywords.{is_reserved}
 use Rattle.syn_grammar.specs.Parens.{ends_in_name}
 
 ends_step : (t u : Token) (us : List Token) → ends_in_name (t ∷ u ∷ us) ≡ ends_in_name (u ∷ us)

@@ -5,7 +5,7 @@ use Rattle.proc_macro2.specs.declared.delimiter.Delimiter.TheVariants.{Brace}
 use Rattle.proc_macro2.specs.Groups.{same_delimiter}
 use Rattle.rust_leaf.specs.declared.punct.Spacing.TheVariants.{Joint}
 use Rattle.syn_grammar.specs.Kind.{Kind, Position, InCondition, ExprBreak, ExprReturn, ExprYield, ExprRange, ExprPath}
-use Rattle.syn_grammar.specs.Words.{same_text}
+use Rattle.rust_leaf.specs.Keywords.{same_text}
 
 -- the first three tokens, or all of fewer
 abbrev pub front3 : List Token → List Token

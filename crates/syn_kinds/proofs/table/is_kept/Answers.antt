@@ -1,6 +1,6 @@
 use Rattle.std.proofs.Common.{arith, sym, ◌∙◌}
 use Rattle.rust_leaf.specs.Leaf.{ident_text}
-use Rattle.syn_kinds.specs.Table.{same_text}
+use Rattle.rust_leaf.specs.Keywords.{same_text}
 use Rattle.syn_kinds.proofs.Words.{is_found, is_passed, none_before, none_behind}
 use Rattle.syn_kinds.proofs.table.is_kept.Goals as goal
 

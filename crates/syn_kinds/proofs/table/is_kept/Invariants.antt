@@ -1,7 +1,8 @@
 use Rattle.std.proofs.Common.{◌≡◌, drop}
 use Rattle.std.specs.List.{list_any}
 use Rattle.rust_leaf.specs.Leaf.{ident_text}
-use Rattle.syn_kinds.specs.Table.{kept_words, same_text}
+use Rattle.syn_kinds.specs.Table.{kept_words}
+use Rattle.rust_leaf.specs.Keywords.{same_text}
 use Rattle.syn_kinds.proofs.table.is_kept.Given as goal
 
 abbrev pub invariant-loop-kind : goal.invariant-loop-kind

@@ -12,6 +12,6 @@ invariant-loop-index g l = record {
   reached : l.index ≤ length (separators l.self);
   left : (all : List Spanned)
       → PutsList g.T.ToTokens.puts g.P.ToTokens.puts (drop l.index (values l.self)) (drop l.index (separators l.self))
-          l.tokens all
+      l.tokens all
       → PutsList g.T.ToTokens.puts g.P.ToTokens.puts (values l.self) (separators l.self) l.initial.tokens all;
 }
