@@ -1,8 +1,7 @@
 #!/usr/bin/env python3
 """Writes docs/GRAMMAR.md: the grammar as one page. The entries, with the rules in words above them, are those of
 crates/syn_grammar/specs, as they are written; the text between them is that of grammar_page.md beside this script, in
-which a line {{entries FILE}}, {{forms}}, {{levels}} or {{keywords}} stands for what is taken from there. An entry
-without words above it has those of grammar_words.txt, by its name on the page.
+which a line {{entries FILE}}, {{forms}}, {{levels}} or {{keywords}} stands for what is taken from there.
 
 Usage: tools/grammar_page.py"""
 import os
@@ -21,9 +20,6 @@ WORDS = {'is_ident': 'Ident', 'is_plain_name': 'Name', 'is_path_keyword': "('sel
          'is_bool': "('true' | 'false')", 'is_name': 'AnyName', 'any_text': 'AnyWord'}
 LITERALS = {'any_text': 'Literal', 'is_string': 'String', 'is_number': 'Number', 'is_index': 'IndexNumber',
             'are_indices': 'Indices', 'ends_in_dot': 'NumberWithDot'}
-
-with open(f'{HERE}/grammar_words.txt', encoding='utf8') as words_file:
-    OTHER_WORDS = dict(line.rstrip('\n').split(': ', 1) for line in words_file)
 
 FILES = 'Paths Types Patterns Attributes Generics Items Lists Expressions Statements Forms'.split()
 DEFINED = {file: definitions(file) for file in FILES}
@@ -349,9 +345,7 @@ def entries(file, kinds, inline):
     page, out, pending, all_forms = Page(kinds), [], [], forms()
     names = [dict(it) if number < 2 else it for number, it in enumerate(all_forms)]
     for it in DEFINED[file]:
-        page_name = (kinds.get(it.name) or it.name or '').split('<')[0]
-        words = it.words or (OTHER_WORDS.get(page_name) if not pending else None)
-        lines = comment(words) if words else []
+        lines = comment(it.words) if it.words else []
         if it.name is None:
             out += ['', *lines]
             continue

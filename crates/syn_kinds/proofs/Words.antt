@@ -26,7 +26,8 @@ text_same b w cs f g =
     (λ e. g (sym ((bytes_eq-Decides (chars w) cs).0 e)))
 
 -- what names nothing is _, or one of the rows
-pub reserved_is : (cs : List ℕ) → is_reserved cs ≡ (same_text (codes "_") cs || list_any (λ w. same_text w cs) kept_words)
+pub reserved_is : (cs : List ℕ) → is_reserved cs
+    ≡ (same_text (codes "_") cs || list_any (λ w. same_text w cs) kept_words)
 unfolding is_reserved kept_words
 reserved_is cs = refl
 
