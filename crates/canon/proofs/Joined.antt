@@ -22,7 +22,7 @@ use Rattle.laws_programs.proofs.JoinedOutputs.{joined_texts}
 use Rattle.laws_programs.proofs.JoinedTexts.{all_joined, program_joined}
 use Rattle.laws_programs.proofs.Programs.{lexical_fault, one_program, program_anywhere, syntax_fault}
 use Rattle.canon.specs.Faults.{IsFaultOf}
-use Rattle.canon.specs.Joined.{AreBehind, ArePut, HasNoRoom, IsDecidedBy, IsFaultAmong, IsFaultBehind, LacksRoom}
+use Rattle.canon.specs.Joined.{AreBehind, ArePut, HasNoRoom, IsDecidedBy, IsFaultAmong, IsFaultOfLater, LacksRoom}
 use Rattle.canon.specs.Joined.{put_in, may_follow, texts_of}
 use Rattle.canon.specs.JoinedRun.{AreUtf8, bytes_of}
 use Rattle.canon.specs.Maps.{IsLeft}
@@ -80,7 +80,7 @@ must_be_first (t ∷ ts) ps text others p h some i n =
     first_behind false (t ∷ ts) ps text others MustBeFirst h (refl, p, i, n)
 
 among : (before : List (List ℕ)) (ps : List Program) (text : List ℕ) (others : List (List ℕ)) (fault : Fault)
-    → AreJoinable false before ps → IsFaultBehind (length before) text fault
+    → AreJoinable false before ps → IsFaultOfLater (length before) text fault
     → IsFaultAmong (before ++ text ∷ others) fault
 among before ps text others (Lexical place) h f =
     (length before, wrong_behind before ps text others (NoForest place) h (λ later. f))
@@ -131,7 +131,7 @@ lacks_all later (t ∷ ts) (p ∷ ps) old between text others h b n =
 
 -- a text that is at fault doesn't stand where it does
 not_wrong : (before : List (List ℕ)) (text : List ℕ) (fault : Fault) (p : Program)
-    → IsFaultBehind (length before) text fault → IsProgram text p → Stands (is_behind before false) text p
+    → IsFaultOfLater (length before) text fault → IsProgram text p → Stands (is_behind before false) text p
     → (fault ≡ MapFull) ⊎ (fault ≡ Memory)
 not_wrong before text (Lexical place) p f i s = absurd (lexical_fault text place p f i)
 not_wrong before text (Syntax error place) p f i s = absurd (syntax_fault text place p f i)
@@ -184,7 +184,7 @@ module _ (texts : List (List ℕ)) (old between : Sources) (whole : List ℕ) (i
       (lacks_behind false texts put.programs old between (whole ∷ []) put.joinable put.behind
       (subst (λ (us : List (List ℕ)). LacksRoom false old us) all_are l))
 
-  of_whole : (fault : Fault) → IsFaultOf whole fault → IsFaultBehind (length texts) whole fault
+  of_whole : (fault : Fault) → IsFaultOf whole fault → IsFaultOfLater (length texts) whole fault
   of_whole (Lexical place) f = f
   of_whole (Syntax error place) f = f
   of_whole MapFull f = f
@@ -290,16 +290,16 @@ module _ (xs : List (Bor (List ℕ))) (i : ℕ) (d : Bor (List ℕ)) (there : i 
       (λ some. l (subst (λ (n : ℕ). 0 < n) count some)) room e)
 
   pub fault_next : (old between : Sources) (fault : Fault) → ArePut (texts_of (take i xs)) old between
-      → IsFaultBehind i (chars x.now) fault → IsFaultAmong (texts_of xs) fault
+      → IsFaultOfLater i (chars x.now) fault → IsFaultAmong (texts_of xs) fault
   fault_next old between fault put f =
       let o = one_of xs i d there in
       subst (λ (us : List (List ℕ)). IsFaultAmong us fault)
       (sym (ap texts_of o.1 ∙ texts_behind (take i xs) (x ∷ o.0)))
       (among (texts_of (take i xs)) put.programs (chars x.now) (texts_of o.0) fault put.joinable
-      (subst (λ (n : ℕ). IsFaultBehind n (chars x.now) fault) (sym count) f))
+      (subst (λ (n : ℕ). IsFaultOfLater n (chars x.now) fault) (sym count) f))
 
   pub decided_next : (old between new : Sources) (fault : Fault) → ArePut (texts_of (take i xs)) old between
-      → IsFaultBehind i (chars x.now) fault → (fault ≡ MapFull) ↔ HasNoRoom between (chars x.now)
+      → IsFaultOfLater i (chars x.now) fault → (fault ≡ MapFull) ↔ HasNoRoom between (chars x.now)
       → IsPlaced (next_position between) (chars x.now) new fault → IsLeft (chars x.now) between new fault
       → IsDecidedBy (put_in (texts_of xs)) old new fault
   decided_next old between new fault put f full placed left =
@@ -313,7 +313,7 @@ module _ (xs : List (Bor (List ℕ))) (i : ℕ) (d : Bor (List ℕ)) (there : i 
             ∙ append_assoc (texts_of (take i xs)) (chars x.now ∷ texts_of o.0) (whole ∷ []);
         between = between;
         put = put;
-        is = subst (λ (n : ℕ). IsFaultBehind n (chars x.now) fault) (sym count) f;
+        is = subst (λ (n : ℕ). IsFaultOfLater n (chars x.now) fault) (sym count) f;
         full = full.0;
         no_room = λ n. inl (full.1 n);
         placed = placed;
@@ -383,7 +383,7 @@ stands_there base n text s ss tree own forest file has may = (
 pub stands_wrong : (base n : ℕ) (text : List ℕ) (s : Option (Bor (List ℕ))) (ss : List Spanned) (tree : Tree)
     (own : Bool) → IsFileForest base text (option_map (λ line. chars line.now) s) ss → IsFile (plain ss) tree
     → (own ≡ false) ↔ (attributes_of tree ≡ []) → 0 < n → may_follow text s own ≡ false
-    → IsFaultBehind n text (NotFirst n)
+    → IsFaultOfLater n text (NotFirst n)
 stands_wrong base n text s ss tree own forest file has some may = (
   refl,
   some,

@@ -53,10 +53,10 @@ abbrev pub may_follow : List ℕ → Option (Bor (List ℕ)) → Bool → Bool
 may_follow text shebang own = not own && (is_none shebang && not (begins is_front_mark text))
 
 -- what a fault says of a text that so many others precede
-abbrev pub IsFaultBehind : ℕ → List ℕ → Fault → Type 0
-IsFaultBehind n text (NotFirst index) =
+abbrev pub IsFaultOfLater : ℕ → List ℕ → Fault → Type 0
+IsFaultOfLater n text (NotFirst index) =
     (index ≡ n) × (0 < n) × (program : Program) × IsProgram text program × (IsLater text program → ⊥)
-IsFaultBehind n text fault = IsFaultOf text fault
+IsFaultOfLater n text fault = IsFaultOf text fault
 
 -- The text that decides: those before it were put into the map, and there it is at fault, or the map has no room for
 -- it, or memory is refused. Want of room is found first; but the last text, which is made of the others, may want
@@ -68,7 +68,7 @@ pub record IsDecidedBy (texts : List (List ℕ)) (old new : Sources) (fault : Fa
   pub split : texts ≡ before ++ text ∷ others
   pub between : Sources
   pub put : ArePut before old between
-  pub is : IsFaultBehind (length before) text fault
+  pub is : IsFaultOfLater (length before) text fault
   pub full : fault ≡ MapFull → HasNoRoom between text
   pub no_room : HasNoRoom between text → (fault ≡ MapFull) ⊎ ((fault ≡ Memory) × (others ≡ []))
   pub placed : IsPlaced (next_position between) text new fault

@@ -1,6 +1,6 @@
 //! The canonical form of texts that are joined.
 
-ghost use Rattle.canon.specs.Joined.{ArePut, HasNoRoom, IsDecidedBy, IsFaultAmong, IsFaultBehind, LacksRoom, put_in};
+ghost use Rattle.canon.specs.Joined.{ArePut, HasNoRoom, IsDecidedBy, IsFaultAmong, IsFaultOfLater, LacksRoom, put_in};
 ghost use Rattle.canon.specs.Joined.{AreBehind, may_follow, texts_of};
 ghost use Rattle.canon.specs.JoinedRun.{AreUtf8, bytes_of};
 ghost use Rattle.canon.specs.Maps.{IsLeft};
@@ -83,7 +83,7 @@ fn put_text(alloc: Global, text: &str, before: usize, map: &mut SourceMap) -> Re
     ensures text { OnOk result (IsUtf8 text.now) }
     ensures program { OnOk result ((program : Program) × IsProgram (chars text.now) program
         × (0 < before → IsLater (chars text.now) program)) }
-    ensures fault { IfErr result (IsFaultBehind before (chars text.now)) }
+    ensures fault { IfErr result (IsFaultOfLater before (chars text.now)) }
     ensures place { IfErr result (IsPlaced (next_position map.old) (chars text.now) map.new) }
     ensures full { (result ≡ Err Fault.MapFull) ↔ HasNoRoom map.old (chars text.now) }
     ensures map_ok { OnOk result (map.new ≡ with_text map.old (chars text.now)) }

@@ -6,7 +6,7 @@ use Rattle.std.proofs.lemmas.List.{drop_more, map-append, take-append-drop, take
 use Rattle.std.specs.Prelude.{ℕ, IfSome}
 use Rattle.canon.specs.Run.{run_limit}
 use Rattle.canon.specs.declared.fault.Fault.{Fault}
-use Rattle.canon_program.specs.Files.{AreHeld, IsFirstUnread, IsUnread}
+use Rattle.canon_program.specs.Files.{AreHeld, IsFirstUnread, IsFileUnread}
 
 -- one more, behind those that were read
 held_more : (held : List ℕ → Option (List ℕ)) (names texts : List (List ℕ)) (name text : List ℕ)
@@ -31,7 +31,7 @@ module _ {X : Type 0} (held : List ℕ → Option (List ℕ)) (named : X → Lis
       (held_more held (map named (take i xs)) texts (named x) text are fits read)
 
   -- the file at a place was not read, and those before it were
-  pub first_unread : (fault : Fault) → IsUnread (held (named x)) fault → IsFirstUnread held (map named xs) fault
+  pub first_unread : (fault : Fault) → IsFileUnread (held (named x)) fault → IsFirstUnread held (map named xs) fault
   first_unread fault unread = record {
     before = map named (take i xs);
     name = named x;

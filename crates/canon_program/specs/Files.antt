@@ -17,11 +17,11 @@ AreHeld held _ _ = ⊥
 
 -- why a file was not read: it has more bytes than the limit; it can't be opened, or reading it failed; or memory was
 -- refused
-abbrev pub IsUnread : Option (List ℕ) → Fault → Type 0
-IsUnread held MapFull = IfSome held (λ bytes. run_limit < length bytes)
-IsUnread held Reading = Unit {0}
-IsUnread held Memory = Unit {0}
-IsUnread held fault = ⊥
+abbrev pub IsFileUnread : Option (List ℕ) → Fault → Type 0
+IsFileUnread held MapFull = IfSome held (λ bytes. run_limit < length bytes)
+IsFileUnread held Reading = Unit {0}
+IsFileUnread held Memory = Unit {0}
+IsFileUnread held fault = ⊥
 
 -- The first file that was not read decides: those before it were.
 pub record IsFirstUnread (held : List ℕ → Option (List ℕ)) (names : List (List ℕ))
@@ -32,7 +32,7 @@ pub record IsFirstUnread (held : List ℕ → Option (List ℕ)) (names : List (
   pub split : names ≡ before ++ name ∷ others
   pub texts : List (List ℕ)
   pub are : AreHeld held before texts
-  pub is : IsUnread (held name) fault
+  pub is : IsFileUnread (held name) fault
 
 -- what was read of all the files is such that this holds of it
 abbrev pub OfFiles : (List ℕ → Option (List ℕ)) → List (List ℕ) → (List (List ℕ) → Type 0) → Type 0

@@ -3,7 +3,7 @@
 ghost use Rattle.canon.specs.JoinedRun.{IsJoinedPage, bytes_of};
 ghost use Rattle.canon.specs.Run.{Writes, WritesFront, run_limit};
 ghost use Rattle.canon_io.specs.Watched.{has_failed, inner_of, is_flushed};
-ghost use Rattle.canon_program.specs.Files.{AreHeld, IsFilesFault, IsFirstUnread, IsUnread, OfFiles};
+ghost use Rattle.canon_program.specs.Files.{AreHeld, IsFilesFault, IsFirstUnread, IsFileUnread, OfFiles};
 ghost use Rattle.std.specs.Prelude.{◌≡◌, ◌≤◌, ◌↔◌, ℕ, List, Option, None, Err, IfErr, IfOk, IfSome};
 ghost use Rattle.std.specs.Prelude.{IsTrue, OnOk};
 ghost use Rattle.std.specs.Prelude.{false, length, map, string_bytes, vec_items};
@@ -99,7 +99,7 @@ fn read_all<F: Files>(alloc: Global, files: &F, names: &[String]) -> Result<Vec<
 fn read_file<F: Files>(alloc: Global, files: &F, name: &str) -> Result<Vec<u8>, Fault>
     ensures fits { IfOk result (λ text. length text.items ≤ run_limit) }
     ensures read { IfOk result (λ text. IfSome (F.held files.now name.now) (λ bytes. text.items ≡ bytes)) }
-    ensures fault { IfErr result (IsUnread (F.held files.now name.now)) }
+    ensures fault { IfErr result (IsFileUnread (F.held files.now name.now)) }
 {
     let Ok(file) = files.open(name) else {
         return Err(Fault::Reading);

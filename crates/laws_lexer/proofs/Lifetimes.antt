@@ -14,7 +14,7 @@ use Rattle.rust_lex.specs.declared.piece.LiteralKind.{LiteralKind}
 use Rattle.rust_lex.specs.declared.piece.PieceKind.{PieceKind}
 use Rattle.rust_lex.specs.declared.piece.PieceKind.TheVariants.{Ident, Literal}
 use Rattle.rust_lex.specs.Quoted.{hashes, raw_closing, IsRaw, IsTail, opening_of, opener_of, literal_kind}
-use Rattle.rust_lex.specs.Word.{IsWord, begins_lifetime, begins_raw_mark, begins_raw_name, begins_kept}
+use Rattle.rust_lex.specs.Word.{IsWord, begins_lifetime, begins_raw_mark, begins_raw_name, begins_never_raw}
 use Rattle.rust_lex.specs.Piece.{IsIdent, IsLiteral, Fits}
 use Rattle.rust_lex.specs.Scan.{Ends, scan, word}
 use Rattle.rust_lex.proofs.Complete.{complete}
@@ -79,7 +79,7 @@ lifetime_word cs calmer h k =
     (ap (begins is_tick_or_hash) (word_ends cs calmer w.0 h.0)
     ∙ calm_shuns is_tick_or_hash calmer shuns_tick_or_hash k))
     (λ (name, e, w, kept). rw e (raw_lifetime (name ++ calmer)
-    (and_from (begins is_first (name ++ calmer)) (not (begins_kept (name ++ calmer))) (word_first name calmer w)
+    (and_from (begins is_first (name ++ calmer)) (not (begins_never_raw (name ++ calmer))) (word_first name calmer w)
     (ap not kept)) (ap (begins is_tick) (word_ends name calmer w h.0) ∙ calm_shuns is_tick calmer shuns_tick k)))
     h.1
 

@@ -9,6 +9,6 @@ abbrev pub marks_tree : List ℕ → Tree
 marks_tree [] = Nil
 marks_tree (c ∷ cs) = AMark c cs Apart
 
--- the mark of a punctuation that has one
+-- the mark of a punctuation of one mark
 abbrev pub mark_of : ℕ → ℕ
 mark_of kind = get_or (sign kind) 0 126

@@ -1,13 +1,15 @@
 -- Expressions of names, literals, operators, ranges, jumps, fields and groups: each own part is a name, or one behind a
 -- dot, or nothing behind it changes it.
 use Rattle.std.specs.Prelude.{◌≡◌, ◌⊎◌, ℕ, Bool, true, false, ◌||◌, List, [], codes}
-use Rattle.rust_leaf.specs.declared.punct.Spacing.TheVariants.{Alone as Apart}
 use Rattle.syn_grammar.specs.Kind.{Kind, InExpression, AnyPath, Path, Segments, ExprPath, ExprRawAddr, ExprReference}
 use Rattle.syn_grammar.specs.Kind.{ExprAwait, ExprBreak, ExprField}
-use Rattle.syn_grammar.specs.Name.{the_name, the_value, the_indices}
+use Rattle.syn_grammar.specs.Name.{the_name, the_value}
 use Rattle.syn_grammar.specs.Words.{is_ident, is_plain_name, are_indices, ends_in_dot}
-use Rattle.syn_grammar.specs.Tree.{Tree, AWord, ALiteral, AMark, Nil, Pair, First, Second, End, Called, Node, Alone}
+use Rattle.syn_grammar.specs.Tree.{Tree, AWord, ALiteral, First, Second, Called, Node, Alone}
 use Rattle.syn_grammar.specs.Tree.{Front, Back, Infix}
+use Rattle.syn_grammar.specs.Alternatives.{a_lone_name, without_colons}
+use Rattle.syn_grammar.specs.Kept as kept
+use Rattle.syn_grammar.specs.Kept.{lone_dot}
 use Rattle.syn_grammar.specs.Normal.{normal}
 use Rattle.laws_reread_expressions.specs.Firm.{is_firm_front, is_firm_behind, IsOwn}
 use Rattle.laws_reread_expressions.specs.Formed.{may_lack_operand, may_have_operand}
@@ -15,15 +17,15 @@ use Rattle.laws_reread_expressions.specs.Formed.{may_lack_operand, may_have_oper
 -- a path that is a name by itself
 abbrev pub lone_name : List ℕ → Tree
 lone_name cs =
-    Node (AnyPath InExpression) (Second (Node (Path InExpression) (Pair (Second Nil)
-    (Node (Segments InExpression) (Second (Pair (AWord cs) (Second (Second (Second Nil)))))))))
+    Node (AnyPath InExpression) (Second (Node (Path InExpression)
+    (without_colons (Node (Segments InExpression) (a_lone_name (AWord cs))))))
 
 abbrev pub IsName : Kind → Tree → Type 0
 IsName k y = (k ≡ ExprPath) × (cs : List ℕ) × (is_plain_name cs ≡ true) × (y ≡ lone_name cs)
 
 -- Behind a dot: await, a name, or a number that ends in no dot.
 abbrev pub behind_dot : Tree → Tree
-behind_dot x = Pair (Pair (AMark 46 [] Apart) (Called the_indices End)) x
+behind_dot x = kept.behind_dot lone_dot x
 
 abbrev pub lone_await : Tree
 lone_await = behind_dot (AWord (codes "await"))

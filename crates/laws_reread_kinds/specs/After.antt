@@ -1,4 +1,5 @@
--- What may not follow a kind's tree, of what the looks see. Written by tools/steps.py, from the entries.
+-- What may follow a kind's tree, of what the looks see. What may not, `behind`, is written by the crate's
+-- tools/steps.py from the entries; all else by hand.
 use Rattle.std.specs.Prelude.{◌≡◌, true, false, List, [], ◌∷◌}
 use Rattle.syn_grammar.specs.Expressions.{postfix_stands}
 use Rattle.syn_grammar.specs.Generics.{impl_generics_stand, where_ends}

@@ -9,7 +9,7 @@ Lacks l ts = sees l ts ≡ false
 abbrev pub Stands : Look → List Token → Type 0
 Stands l ts = sees l ts ≡ true
 
--- it sees none of these
+-- none of these looks sees anything there
 abbrev pub LacksAll : List Look → List Token → Type 0
 LacksAll [] ts = Unit {0}
 LacksAll (l ∷ ls) ts = Lacks l ts × LacksAll ls ts

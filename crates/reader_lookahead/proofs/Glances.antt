@@ -27,7 +27,7 @@ use Rattle.reader_table.specs.declared.composite.Composite.{Composite}
 use Rattle.reader_table.specs.declared.composite.Composite.TheVariants as composites
 use Rattle.reader_lookahead.proofs.Reserved.{Kept, either_no, none_among}
 use Rattle.reader_lookahead.specs.Names.{call_begins, name_goes_on, signature_begins}
-use Rattle.reader_lookahead.specs.Words.{begins_pattern, closure_words, function_words, impl_words, may_begin_item}
+use Rattle.reader_lookahead.specs.Words.{begins_pattern, closure_words, signature_words, impl_words, may_begin_item}
 use Rattle.reader_lookahead.specs.Words.{trait_words}
 
 -- what stands first, by its kind
@@ -348,10 +348,10 @@ must_behind a l f ts g h = by (a ts) h
 
 pub signature_none : (ts : List Token) → sees signature_begins ts ≡ false
     → composite_of composites.SignatureStands ts ≡ None
-signature_none ts h = maybe_behind (at "const") _ (one_of function_words) ts
-    (λ us e. by us (each_none function_words us e)) h
+signature_none ts h = maybe_behind (at "const") _ (one_of signature_words) ts
+    (λ us e. by us (each_none signature_words us e)) h
   where
-    by : (us : List Token) → Each function_words us → (maybe (at "async") then maybe (at "unsafe")
+    by : (us : List Token) → Each signature_words us → (maybe (at "async") then maybe (at "unsafe")
         then maybe (at "extern" then maybe (a_quoted is_string)) then at "fn") us ≡ None
     by us e =
         maybe_then (at "async") _ us e.1.0 ∙ maybe_then (at "unsafe") _ us e.1.1.0

@@ -1,6 +1,6 @@
 -- What may follow a name, and what may begin a signature.
 use Rattle.std.specs.Prelude.{[]}
-use Rattle.reader_lookahead.specs.Words.{function_words}
+use Rattle.reader_lookahead.specs.Words.{signature_words}
 use Rattle.syn_grammar.specs.Say.{at}
 use Rattle.syn_grammar.specs.Look.{Look, ◌then◌, ◌or◌, a_word, one_of, opening, past_marks}
 use Rattle.syn_grammar.specs.Words.{any_text}
@@ -15,4 +15,4 @@ name_goes_on = opening or past_marks 58 [] or past_marks 46 []
 
 -- A function's signature may begin: one of its words stands there, or const and then one of them.
 abbrev pub signature_begins : Look
-signature_begins = one_of function_words or (at "const" then one_of function_words)
+signature_begins = one_of signature_words or (at "const" then one_of signature_words)

@@ -20,8 +20,8 @@ abbrev pub begins_form : List ℕ → Bool
 begins_form cs = is_bool cs || (is_among early_words cs || is_among late_words cs)
 
 -- the words that begin a function's signature, perhaps behind const
-abbrev pub function_words : List (List ℕ)
-function_words = codes "fn" ∷ codes "async" ∷ codes "unsafe" ∷ codes "extern" ∷ []
+abbrev pub signature_words : List (List ℕ)
+signature_words = codes "fn" ∷ codes "async" ∷ codes "unsafe" ∷ codes "extern" ∷ []
 
 -- the words that begin a trait behind const, and an impl
 abbrev pub trait_words : List (List ℕ)

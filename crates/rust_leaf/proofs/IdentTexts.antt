@@ -1,6 +1,6 @@
 -- The texts of identifiers are the identifiers where nothing follows.
 use Rattle.std.proofs.Common.{◌≡◌, ℕ, List, [], ◌∷◌, refl, sym, ap, ap₂, ◌∙◌, inl, inr, ⊎_elim}
-use Rattle.std.specs.Prelude.{Bool, true, false, not, ◌↔◌, ◌&&◌, ◌||◌, ◌==◌}
+use Rattle.std.specs.Prelude.{codes, Bool, true, false, not, ◌↔◌, ◌&&◌, ◌||◌, ◌==◌}
 use Rattle.std.specs.List.{list_all}
 use Rattle.std.specs.Str.{bytes_eq}
 use Rattle.std.proofs.Math.Bool.{or-false}
@@ -11,7 +11,7 @@ use Rattle.unicode_ident.specs.Ident.{is_xid_continue}
 use Rattle.rust_leaf.specs.Identifier.{is_identifier, is_never_raw, is_raw_identifier, is_ident_text}
 use Rattle.rust_lex.specs.Chars.{is_first, is_next, begins, passes, is_quote_or_hash}
 use Rattle.rust_lex.specs.Quoted.{opener_of}
-use Rattle.rust_lex.specs.Word.{IsWord, IsRawWord, begins_word, begins_kept}
+use Rattle.rust_lex.specs.Word.{IsWord, IsRawWord, begins_word, begins_never_raw}
 use Rattle.rust_lex.specs.Piece.{IsIdent, is_prefixed}
 use Rattle.rust_lex.proofs.Fronts.{first-next}
 use Rattle.rust_lex.proofs.Quieter.{not_char}
@@ -67,14 +67,14 @@ word_same (d ∷ w) [] h = refl
 word_same (d ∷ w) (c ∷ cs) h = let (_, b) =
     and_parts (is_next c) (passes is_next cs) h in ap (λ r. c == d && r) (word_same w cs b)
 
-kept_same : (cs : List ℕ) → passes is_next cs ≡ true → begins_kept cs ≡ is_never_raw cs
-unfolding begins_kept
+kept_same : (cs : List ℕ) → passes is_next cs ≡ true → begins_never_raw cs ≡ is_never_raw cs
+unfolding begins_never_raw
 kept_same cs h = rw (
-  word_same (95 ∷ []) cs h,
-  word_same (115 ∷ 117 ∷ 112 ∷ 101 ∷ 114 ∷ []) cs h,
-  word_same (115 ∷ 101 ∷ 108 ∷ 102 ∷ []) cs h,
-  word_same (83 ∷ 101 ∷ 108 ∷ 102 ∷ []) cs h,
-  word_same (99 ∷ 114 ∷ 97 ∷ 116 ∷ 101 ∷ []) cs h,
+  word_same (codes "_") cs h,
+  word_same (codes "super") cs h,
+  word_same (codes "self") cs h,
+  word_same (codes "Self") cs h,
+  word_same (codes "crate") cs h,
 ) (sym (five (bytes_eq cs (95 ∷ [])) (bytes_eq cs (115 ∷ 117 ∷ 112 ∷ 101 ∷ 114 ∷ []))
     (bytes_eq cs (115 ∷ 101 ∷ 108 ∷ 102 ∷ [])) (bytes_eq cs (83 ∷ 101 ∷ 108 ∷ 102 ∷ []))
     (bytes_eq cs (99 ∷ 114 ∷ 97 ∷ 116 ∷ 101 ∷ []))))
@@ -92,12 +92,13 @@ raw_is (c ∷ d ∷ cs) h =
     let w = word_is cs i in
     let x = eqb-true c 114 r in
     let y = eqb-true d 35 s in
-    (cs, ap₂ (λ x y. x ∷ y ∷ cs) x y, w, ap begins_kept (append-nil cs) ∙ kept_same cs (word_next cs w) ∙ not-true _ n)
+    (cs, ap₂ (λ x y. x ∷ y ∷ cs) x y, w,
+    ap begins_never_raw (append-nil cs) ∙ kept_same cs (word_next cs w) ∙ not-true _ n)
 
 raw_text : (cs : List ℕ) → IsRawWord cs [] → is_raw_identifier cs ≡ true
 raw_text cs (name, e, w, k) =
     ap is_raw_identifier e ∙ and_from (is_identifier name) (not (is_never_raw name)) (identifier_is name w)
-    (ap not (sym (kept_same name (word_next name w)) ∙ sym (ap begins_kept (append-nil name)) ∙ k))
+    (ap not (sym (kept_same name (word_next name w)) ∙ sym (ap begins_never_raw (append-nil name)) ∙ k))
 
 pub ident_text_is : (cs : List ℕ) → is_ident_text cs ≡ true ↔ IsIdent cs []
 ident_text_is cs = (

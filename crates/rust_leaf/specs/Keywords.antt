@@ -1,9 +1,9 @@
--- The keywords of Rust, and the words that name nothing.
+-- The keywords of Rust, and the words that are no identifiers.
 use Rattle.std.specs.Prelude.{ℕ, Bool, List, [], ◌∷◌, codes}
 use Rattle.std.specs.List.{list_any}
 use Rattle.std.specs.Str.{bytes_eq}
 
--- the strict and the reserved ones, as the Reference has them under "Keywords"
+-- the strict and the reserved ones, as the Reference has them under "Keywords", up to the 2021 edition
 abbrev pub keywords : List (List ℕ)
 keywords =
     codes "abstract" ∷ codes "as" ∷ codes "async" ∷ codes "await" ∷ codes "become" ∷ codes "box" ∷ codes "break"
@@ -22,7 +22,7 @@ same_text cs ds = bytes_eq cs ds
 abbrev pub is_among : List (List ℕ) → List ℕ → Bool
 is_among words cs = list_any (λ word. same_text word cs) words
 
--- what names nothing: the underscore, and the keywords
+-- what is no identifier: the underscore, and all keywords, strict and reserved
 abbrev pub reserved : List (List ℕ)
 reserved = codes "_" ∷ keywords
 

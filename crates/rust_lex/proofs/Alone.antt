@@ -1,6 +1,6 @@
 -- What is an identifier or a literal before some rest is one before any calm text.
 use Rattle.std.proofs.Common.{◌≡◌, ℕ, List, [], ◌∷◌, ◌++◌, refl, sym, ap, ◌∙◌, subst, inl, inr, ⊎_elim}
-use Rattle.std.specs.Prelude.{Bool, true, false, ◌&&◌, ◌==◌, is_some, Some, None, if◌then◌else◌}
+use Rattle.std.specs.Prelude.{codes, Bool, true, false, ◌&&◌, ◌==◌, is_some, Some, None, if◌then◌else◌}
 use Rattle.std.proofs.lemmas.Bool.{and_parts, and_right, cases_Bool, eqb-true}
 use Rattle.unicode_ident.proofs.Computing.{unicode_ident}
 use Rattle.rust_lex.specs.Chars.{is_next, begins, passes, is_quote_or_hash}
@@ -8,7 +8,7 @@ use Rattle.rust_escape.specs.declared.mode.Mode.{Mode}
 use Rattle.rust_escape.specs.declared.mode.Mode.TheVariants as modes
 use Rattle.rust_lex.specs.declared.piece.LiteralKind.{LiteralKind}
 use Rattle.rust_lex.specs.Quoted.{opener_of}
-use Rattle.rust_lex.specs.Word.{IsWord, begins_word, begins_kept}
+use Rattle.rust_lex.specs.Word.{IsWord, begins_word, begins_never_raw}
 use Rattle.rust_lex.specs.Piece.{IsIdent, IsLiteral, is_prefixed}
 use Rattle.rust_lex.proofs.Fronts.{among_each}
 use Rattle.rust_lex.specs.Calm.{calm, IsCalm}
@@ -80,15 +80,15 @@ word_same (d ∷ w) [] x y p a b = let (n, _) =
 word_same (d ∷ w) (c ∷ cs) x y p a b = let (_, n) =
     and_parts (is_next d) (passes is_next w) p in ap (λ r. c == d && r) (word_same w cs x y n a b)
 
-pub kept_same : (cs x y : List ℕ) → begins is_next x ≡ false → begins is_next y ≡ false → begins_kept (cs ++ x)
-    ≡ begins_kept (cs ++ y)
-unfolding begins_kept is_next unicode_ident
+pub kept_same : (cs x y : List ℕ) → begins is_next x ≡ false → begins is_next y ≡ false → begins_never_raw (cs ++ x)
+    ≡ begins_never_raw (cs ++ y)
+unfolding begins_never_raw is_next unicode_ident
 kept_same cs x y a b = rw (
-  word_same (95 ∷ []) cs x y refl a b,
-  word_same (115 ∷ 117 ∷ 112 ∷ 101 ∷ 114 ∷ []) cs x y refl a b,
-  word_same (115 ∷ 101 ∷ 108 ∷ 102 ∷ []) cs x y refl a b,
-  word_same (83 ∷ 101 ∷ 108 ∷ 102 ∷ []) cs x y refl a b,
-  word_same (99 ∷ 114 ∷ 97 ∷ 116 ∷ 101 ∷ []) cs x y refl a b,
+  word_same (codes "_") cs x y refl a b,
+  word_same (codes "super") cs x y refl a b,
+  word_same (codes "self") cs x y refl a b,
+  word_same (codes "Self") cs x y refl a b,
+  word_same (codes "crate") cs x y refl a b,
 ) refl
 
 pub ident_calm : (cs rest calmer : List ℕ) → IsIdent cs rest → IsCalm calmer → IsIdent cs calmer

@@ -14,7 +14,7 @@ use Rattle.rust_lex.specs.Quoted.{LiteralKind, Str, ByteStr, CStr, Byte, Char, l
 use Rattle.rust_lex.specs.Quoted.{IsQuotedLiteral, IsTail}
 use Rattle.rust_lex.specs.QuotedScan.{past_char, past_units, past_tail}
 use Rattle.rust_lex.specs.Number.{IsNumber}
-use Rattle.rust_lex.specs.Word.{IsWord, begins_raw_mark, begins_raw_name, begins_kept, begins_lifetime}
+use Rattle.rust_lex.specs.Word.{IsWord, begins_raw_mark, begins_raw_name, begins_never_raw, begins_lifetime}
 use Rattle.rust_lex.specs.Piece.{PieceKind, FrontMark, White, Comment, Doc, Open, Close, Mark, Ident, Literal, Fits}
 use Rattle.rust_lex.specs.Piece.{FitsFront, FitsAt, IsBody, IsIdent, is_prefixed, begins_mark}
 use Rattle.rust_lex.specs.Scan.{Nowhere, Ends, suffixed, ended, line, block, slash, ticked, word, scan, scan_front}
@@ -169,7 +169,7 @@ no_opener : (cs : List ℕ) → is_prefixed cs ≡ false → opener_of cs ≡ No
 no_opener cs h = ⊎_elim (λ n. n) (λ (o, e). let k : is_some (Some o) ≡ false = subst (λ x. is_some x ≡ false) e h in cc)
     (option_cases (opener_of cs))
 
-raw_scanned : (name rest : List ℕ) → IsWord name → begins_kept (name ++ rest) ≡ false → begins is_next rest ≡ false
+raw_scanned : (name rest : List ℕ) → IsWord name → begins_never_raw (name ++ rest) ≡ false → begins is_next rest ≡ false
     → scan (114 ∷ 35 ∷ (name ++ rest)) ≡ Ends Ident rest
 raw_scanned [] rest w k s = elim w [ ]
 raw_scanned (c ∷ cs) rest w k s =

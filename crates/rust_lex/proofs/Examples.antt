@@ -11,7 +11,7 @@ use Rattle.rust_escape.specs.Scan.{byte_escape, digits, unicode_escape, escape}
 use Rattle.rust_lex.specs.Quoted.{Str, ByteStr, CStr, Byte, Char, Int, Float, opener_of}
 use Rattle.rust_lex.specs.QuotedScan.{past_unit, past_char, past_units, past_raw, past_hashes}
 use Rattle.rust_lex.specs.Number.{past_number, number_kind}
-use Rattle.rust_lex.specs.Word.{begins_kept, begins_lifetime}
+use Rattle.rust_lex.specs.Word.{begins_never_raw, begins_lifetime}
 use Rattle.rust_lex.specs.Piece.{White, Comment, Doc, Mark, Ident, Literal, FrontMark, begins_mark}
 use Rattle.rust_lex.specs.Shebang.{begins_shebang, IsShebang}
 use Rattle.rust_lex.specs.Scan.{Nowhere, Ends, front_of, line, block, slash, ticked, word, scan, scan_front, is_joint}
@@ -20,8 +20,8 @@ use Rattle.rust_lex.specs.Scan.{Nowhere, Ends, front_of, line, block, slash, tic
 unfoldable all : Unit {0}
 unfolding unicode_ident is_white is_first is_next is_digit is_mark_but_tick past_comment is_hex_digit hex_value
     simple_value past_lines lexical_slash lexical_scan byte_escape digits unicode_escape escape past_unit past_char
-    past_units past_raw past_hashes opener_of past_number number_kind begins_kept begins_lifetime front_of line block
-    slash ticked word
+    past_units past_raw past_hashes opener_of past_number number_kind begins_never_raw begins_lifetime front_of line
+    block slash ticked word
 all = tt
 
 character : scan (codes "'a'") ≡ Ends (Literal Char) []

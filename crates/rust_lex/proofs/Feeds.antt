@@ -18,7 +18,7 @@ use Rattle.rust_lex.specs.Number.{is_exponent_letter, is_split, number_kind, pas
 use Rattle.rust_lex.specs.Number.{past_fraction, past_lead, past_number, past_sign}
 use Rattle.rust_lex.specs.Piece.{Piece, Fits, FitsFront, IsIdent, IsLiteral, IsSuffix, begins_mark, is_prefixed}
 use Rattle.rust_lex.specs.Quoted.{opener_of}
-use Rattle.rust_lex.specs.Word.{begins_kept, begins_lifetime, begins_raw_mark, begins_raw_name}
+use Rattle.rust_lex.specs.Word.{begins_never_raw, begins_lifetime, begins_raw_mark, begins_raw_name}
 use Rattle.rust_lex.specs.Cover.{onto, AreFit, AreFitFront}
 use Rattle.rust_lex.proofs.Alone.{kept_same, one_prefix}
 use Rattle.rust_lex.proofs.Numbers.{base_small}
@@ -219,8 +219,8 @@ prefixed_same (c ∷ []) x h = one_prefix c 10 x refl refl refl refl
 prefixed_same (c ∷ d ∷ []) x h = h
 prefixed_same (c ∷ d ∷ e ∷ t) x h = h
 
-kept_feed : (t x : List ℕ) → begins_kept (t ++ 10 ∷ x) ≡ begins_kept t
-kept_feed t x = kept_same t (10 ∷ x) [] stops_next refl ∙ ap begins_kept (append-nil t)
+kept_feed : (t x : List ℕ) → begins_never_raw (t ++ 10 ∷ x) ≡ begins_never_raw t
+kept_feed t x = kept_same t (10 ∷ x) [] stops_next refl ∙ ap begins_never_raw (append-nil t)
 
 ident_feed : (cs rest x : List ℕ) → IsIdent cs rest → IsIdent cs (rest ++ 10 ∷ x)
 ident_feed cs rest x (ends, is) = (
@@ -231,7 +231,7 @@ ident_feed cs rest x (ends, is) = (
         name,
         joined,
         word,
-        ap begins_kept (sym (append_assoc name rest (10 ∷ x))) ∙ kept_feed (name ++ rest) x ∙ kept,
+        ap begins_never_raw (sym (append_assoc name rest (10 ∷ x))) ∙ kept_feed (name ++ rest) x ∙ kept,
       ))
       is,
 )

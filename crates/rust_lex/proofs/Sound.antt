@@ -13,7 +13,7 @@ use Rattle.rust_escape.specs.declared.mode.Mode.TheVariants as modes
 use Rattle.rust_lex.specs.Quoted.{LiteralKind, Char, literal_kind, opening_of, opener_of, IsTail}
 use Rattle.rust_lex.specs.QuotedScan.{past_char, past_tail}
 use Rattle.rust_lex.specs.Number.{past_number, number_kind, IsNumber}
-use Rattle.rust_lex.specs.Word.{begins_raw_mark, begins_raw_name, begins_kept, begins_lifetime}
+use Rattle.rust_lex.specs.Word.{begins_raw_mark, begins_raw_name, begins_never_raw, begins_lifetime}
 use Rattle.rust_lex.specs.Piece.{PieceKind, FrontMark, White, Comment, Doc, Open, Close, Mark, Ident, Literal, Fits}
 use Rattle.rust_lex.specs.Piece.{FitsFront, FitsAt, IsBody, is_prefixed}
 use Rattle.rust_lex.specs.Scan.{Front, white, opens, closes, quote, tick, digit, first, mark, other, front_of}
@@ -287,7 +287,7 @@ word_raw cs h = rw (h, word) refl
 name_found : (cs : List ℕ) → begins_raw_name cs ≡ true → Found Ident (114 ∷ 35 ∷ cs) (past is_next cs)
 name_found [] h = cc
 name_found (c ∷ cs) h =
-    let (f, n) = and_parts (is_first c) (not (begins_kept (c ∷ cs))) h in
+    let (f, n) = and_parts (is_first c) (not (begins_never_raw (c ∷ cs))) h in
     let p = passed is_next cs in
     subst (λ r. Found Ident (114 ∷ 35 ∷ c ∷ cs) r) (sym (past_word c cs f))
     (record {
@@ -299,7 +299,7 @@ name_found (c ∷ cs) h =
           c ∷ p.front,
           refl,
           (f, p.pass),
-          subst (λ x. begins_kept (c ∷ x) ≡ false) p.joined (not-true _ n),
+          subst (λ x. begins_never_raw (c ∷ x) ≡ false) p.joined (not-true _ n),
         ),
       );
     })

@@ -1,6 +1,6 @@
 -- Identifiers, and the quote mark of a lifetime.
 use Rattle.std.specs.Prelude.{◌≡◌, ℕ, Bool, true, false, ◌&&◌, ◌||◌, ◌==◌, not, List, [], ◌∷◌, ◌++◌, drop}
-use Rattle.std.specs.Prelude.{if◌then◌else◌}
+use Rattle.std.specs.Prelude.{codes, if◌then◌else◌}
 use Rattle.rust_lex.specs.Chars.{is_first, is_next, begins, passes, begins_with, is_tick, is_tick_or_hash, past}
 
 -- a character that an identifier begins with, and any that it goes on with
@@ -15,12 +15,10 @@ begins_word (d ∷ ds) [] = false
 begins_word (d ∷ ds) (c ∷ cs) = c == d && begins_word ds cs
 
 -- the identifier that a text begins with is _ super self Self or crate, none of which is ever raw
-unfoldable pub begins_kept : List ℕ → Bool
-begins_kept cs = begins_word (95 ∷ []) cs
-    || (begins_word (115 ∷ 117 ∷ 112 ∷ 101 ∷ 114 ∷ []) cs
-    || (begins_word (115 ∷ 101 ∷ 108 ∷ 102 ∷ []) cs
-    || (begins_word (83 ∷ 101 ∷ 108 ∷ 102 ∷ []) cs
-    || begins_word (99 ∷ 114 ∷ 97 ∷ 116 ∷ 101 ∷ []) cs)))
+unfoldable pub begins_never_raw : List ℕ → Bool
+begins_never_raw cs = begins_word (codes "_") cs
+    || (begins_word (codes "super") cs
+    || (begins_word (codes "self") cs || (begins_word (codes "Self") cs || begins_word (codes "crate") cs)))
 
 -- r#
 abbrev pub begins_raw_mark : List ℕ → Bool
@@ -28,11 +26,11 @@ begins_raw_mark cs = begins_with (114 ∷ 35 ∷ []) cs
 
 -- the name of a raw identifier stands there
 abbrev pub begins_raw_name : List ℕ → Bool
-begins_raw_name cs = begins is_first cs && not (begins_kept cs)
+begins_raw_name cs = begins is_first cs && not (begins_never_raw cs)
 
 -- r# and an identifier that may be raw, before a rest
 abbrev pub IsRawWord : List ℕ → List ℕ → Type 0
-IsRawWord cs rest = (name : List ℕ) × (cs ≡ 114 ∷ 35 ∷ name) × IsWord name × (begins_kept (name ++ rest) ≡ false)
+IsRawWord cs rest = (name : List ℕ) × (cs ≡ 114 ∷ 35 ∷ name) × IsWord name × (begins_never_raw (name ++ rest) ≡ false)
 
 -- behind a quote that is a mark: an identifier stands there, and behind it neither ' nor #;
 -- behind a raw identifier # may stand

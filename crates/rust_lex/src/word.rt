@@ -41,10 +41,10 @@ const SELF_TYPE: [char; 4] = ['S', 'e', 'l', 'f'];
 const CRATE: [char; 5] = ['c', 'r', 'a', 't', 'e'];
 
 // Whether the identifier at a place is never raw.
-#[tactic(auto, unfolding(crate::specs::Word::begins_kept))]
-fn begins_kept(text: &str, at: usize) -> bool
+#[tactic(auto, unfolding(crate::specs::Word::begins_never_raw))]
+fn begins_never_raw(text: &str, at: usize) -> bool
     requires { IsPlace text.now at }
-    ensures { result ≡ word.begins_kept (rest_at text.now at) }
+    ensures { result ≡ word.begins_never_raw (rest_at text.now at) }
 {
     let line = begins_word(text, at, &LINE);
     let upper = begins_word(text, at, &SUPER);
@@ -79,7 +79,7 @@ pub(crate) fn begins_raw_name(text: &str, at: usize) -> bool
     ensures { result ≡ word.begins_raw_name (rest_at text.now at) }
 {
     if begins::<First>(text, at) {
-        !begins_kept(text, at)
+        !begins_never_raw(text, at)
     } else {
         false
     }

@@ -111,5 +111,6 @@ abbrev mutual
       infix_form p (formed p (follow (flat own)) l) k own (formed (inside p k) ts r)
   formed p ts x = x
 
+-- Normal form of a tree by itself: in plain position.
 abbrev pub normal : Tree → Tree
 normal x = normal_in Plain x

@@ -1,13 +1,14 @@
--- The names of a form's parts, by which rules speak of them, and what rules say of parts, of lists and of turns.
+-- What rules say of the parts of a form, of lists and of turns.
 use Rattle.std.specs.Prelude.{Bool, true, false, ◌&&◌, ◌||◌, cond, Option, Some, None}
 use Rattle.syn_grammar.specs.Name.{Part, same_part}
 use Rattle.syn_grammar.specs.Tree.{Tree, Nil, Pair, First, Second, End, Again, Final, More, Group, Called}
 
--- the part of that name, of what an entry reads: not of a kind inside, nor of another part
+-- the first of two, if there is one
 abbrev pub or_else : Option Tree → Option Tree → Option Tree
 or_else None o = o
 or_else (Some x) o = Some x
 
+-- the part of that name, of what an entry reads: not of a kind inside, nor of another part
 abbrev pub found : Part → Tree → Option Tree
 found n (Called m x) = cond (same_part m n) (Some x) None
 found n (Pair x y) = or_else (found n x) (found n y)

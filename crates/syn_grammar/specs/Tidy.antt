@@ -15,7 +15,7 @@ use Rattle.syn_grammar.specs.Part.{has, the, changed, choice}
 abbrev pub removed_if : (Tree → Bool) → Tree → Tree
 removed_if e x = cond (e x) (Second Nil) x
 
--- It is the clause of a form that is removed: one that is read by itself has its where.
+-- a list without elements
 abbrev pub is_none : Tree → Bool
 is_none End = true
 is_none _ = false
@@ -24,6 +24,7 @@ abbrev pub is_bare_clause : Tree → Bool
 is_bare_clause (Node WhereClause x) = is_none (the the_parameters x)
 is_bare_clause _ = false
 
+-- A where clause without predicates is removed as a part of a form; one that is read by itself keeps its where.
 abbrev pub is_bare_where : Tree → Bool
 is_bare_where x = is_bare_clause (the the_clause x)
 

@@ -13,7 +13,7 @@ separators list = list.separators.items
 abbrev pub IsSeparated : {T P : Type 0} → List T → List P → Type 0
 IsSeparated vs ps = (length ps ≤ length vs) × (length vs ≤ length ps + 1)
 
--- a call leaves a list so that is so
+-- a call leaves a list separated, if it was
 abbrev pub StaysSeparated : {T P : Type 0} → Punctuated T P → Punctuated T P → Type 0
 StaysSeparated old new = IsSeparated (values old) (separators old) → IsSeparated (values new) (separators new)
 

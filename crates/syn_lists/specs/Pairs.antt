@@ -12,7 +12,7 @@ pairs [] ps = []
 pairs (v ∷ vs) [] = (v, None) ∷ pairs vs []
 pairs (v ∷ vs) (p ∷ ps) = (v, Some p) ∷ pairs vs ps
 
--- a pair is that
+-- a pair as its value and its separator, if it has one
 abbrev pub parts : {T P : Type 0} → Pair T P → T × Option P
 parts (Punctuated v p) = (v, Some p)
 parts (End v) = (v, None)

@@ -4,8 +4,8 @@ use Rattle.proc_macro2.specs.Token.{Token}
 use Rattle.syn_grammar.specs.Kind.{Kind, ExprField, ExprMethodCall, ExprAwait}
 use Rattle.syn_grammar.specs.Name.{the_indices, the_value}
 use Rattle.syn_grammar.specs.Words.{before_dot, plain_decimal}
-use Rattle.syn_grammar.specs.Tree.{Tree, ALiteral, Pair, Second, End, Again, Called}
-use Rattle.syn_grammar.specs.Kept.{kept, lone_dot}
+use Rattle.syn_grammar.specs.Tree.{Tree, ALiteral, Pair, Second, Again, Called}
+use Rattle.syn_grammar.specs.Kept.{behind_dot, kept, lone_dot}
 use Rattle.syn_grammar.specs.Normal.{normal}
 use Rattle.syn_grammar.specs.Forms.{level}
 use Rattle.laws_binding.specs.Written.{Written, other, a_named_field, takes_at}
@@ -32,13 +32,12 @@ put_behind v k ts l = put_at v (level k) ts l
 
 -- the own part of a field by its number
 abbrev pub field_own : List ℕ → Tree
-field_own cs =
-    Pair (Pair lone_dot (Called the_indices End)) (Second (Called the_value (ALiteral (plain_decimal cs))))
+field_own cs = behind_dot lone_dot (Second (Called the_value (ALiteral (plain_decimal cs))))
 
 -- the own part of the first form
 abbrev pub last_own : Kind → Tree → Tree → Tree
 last_own ExprField d (Second (Called the_value (ALiteral cs))) = field_own (before_dot cs)
-last_own k d z = Pair (Pair (normal (kept d)) (Called the_indices End)) (normal (kept z))
+last_own k d z = behind_dot (normal (kept d)) (normal (kept z))
 
 abbrev pub dotted_first : Kind → Tree → Tree
 dotted_first k (Pair (Pair d (Called the_indices (Again (ALiteral cs) x))) z) = field_own (before_dot cs)

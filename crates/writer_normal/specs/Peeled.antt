@@ -1,10 +1,10 @@
 -- What is taken out of a tree, and what is made of parts of it, where a syntax tree holds it otherwise than it was
 -- read.
 use Rattle.std.specs.Prelude.{Bool, true, false, Option, Some, None}
+use Rattle.syn_grammar.specs.Alternatives.{a_block_argument, a_literal_argument, a_macro_statement, an_expression}
 use Rattle.syn_grammar.specs.Kind.{AtType, AnyPath, Body, ExprLit, ExprPath, ExprMacro, OuterAttributes}
 use Rattle.syn_grammar.specs.Kept.{as_path, atom, block_atom, given, left_in_front}
-use Rattle.syn_grammar.specs.Name.{the_attributes, the_expression}
-use Rattle.syn_grammar.specs.Tree.{Tree, First, Second, Again, Pair, Called, Node, Alone}
+use Rattle.syn_grammar.specs.Tree.{Tree, First, Second, Again, Node, Alone}
 use Rattle.writer_rules.specs.Operands.{first_behind}
 use Rattle.writer_rules.specs.Seen.{unnamed_of}
 
@@ -38,13 +38,13 @@ attributes_of _ = None
 
 -- an argument that is a literal, with a sign or without, and one that is a block
 abbrev pub argued_literal : Tree → Tree
-argued_literal (First x) = Second (First (atom ExprLit (First x)))
-argued_literal (Second x) = Second (First (atom ExprLit (Second x)))
-argued_literal x = Second (First x)
+argued_literal (First x) = a_literal_argument (atom ExprLit (First x))
+argued_literal (Second x) = a_literal_argument (atom ExprLit (Second x))
+argued_literal x = a_literal_argument x
 
 abbrev pub argued_block : Tree → Tree
-argued_block (Node Body x) = Second (Second (First (block_atom (Node Body x))))
-argued_block x = Second (Second (First x))
+argued_block (Node Body x) = a_block_argument (block_atom (Node Body x))
+argued_block x = a_block_argument x
 
 -- the default of a constant parameter that is no literal
 abbrev pub default_behind : Tree → Tree
@@ -59,9 +59,7 @@ is_body _ = false
 
 -- a statement that is an expression, and one that is a macro
 abbrev pub expressed : Tree → Tree → Tree → Tree
-expressed a e s =
-    Second (Second (Second (Second
-    (Pair (Called the_attributes (left_in_front a)) (Pair (Called the_expression (given a e)) s)))))
+expressed a e s = an_expression (left_in_front a) (given a e) s
 
 abbrev pub stated_macro : Tree → Tree → Tree → Tree
-stated_macro a m s = Second (First (Pair a (Pair m s)))
+stated_macro a m s = a_macro_statement a m s

@@ -3,7 +3,7 @@ use Rattle.std.proofs.lemmas.List.{map-append}
 use Rattle.std.proofs.lemmas.Result.{err_from_is_err_and}
 use Rattle.std.specs.Prelude.{IfSome, if◌then◌else◌, string_bytes, vec_items}
 use Rattle.canon.specs.declared.fault.Fault.TheVariants.{Memory}
-use Rattle.canon_program.specs.Files.{AreHeld, IsUnread}
+use Rattle.canon_program.specs.Files.{AreHeld, IsFileUnread}
 use Rattle.canon_program.proofs.Held.{first_unread, held_next}
 use Rattle.canon_program.proofs.files.read_all.Goals as goal
 
@@ -15,7 +15,8 @@ returns-in_err-text-clause-fault g c =
     (first_unread held string_bytes c.args.names.now c.loop-name.name-index
     c.name-item.result _ (map vec_items c.loop-name.texts.items) c.loop-name-test.true c.name-item.is
     c.loop-name.invariant c.in_err-text.field-0.0
-    (subst (λ name. IsUnread (held name) c.in_err-text.field-0.0) c.as_str.ensures.value c.in_err-text.ensures.fault))
+    (subst (λ name. IsFileUnread (held name) c.in_err-text.field-0.0) c.as_str.ensures.value
+    c.in_err-text.ensures.fault))
 
 pub returns-then-is_err-clause-fault : goal.returns-then-is_err-clause-fault
 returns-then-is_err-clause-fault g c =
