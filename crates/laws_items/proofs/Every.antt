@@ -30,8 +30,8 @@ use Rattle.syn_grammar.specs.Tidy.{is_lifetime_argument, joined, those_then, oth
 use Rattle.syn_grammar.specs.Tidy.{moved, keeps_generics, without_generics, tidy}
 use Rattle.syn_grammar.specs.Parens.{parens_unless, stays_right, stays_left, with_right, with_left, begins_in}
 use Rattle.syn_grammar.specs.Parens.{stands_in, takes_what_follows, follow}
-use Rattle.syn_grammar.specs.Normal.{place_of, passed, stands_behind, apart, apart_item, apart_if, is_enclosed}
-use Rattle.syn_grammar.specs.Normal.{normal_in, formed}
+use Rattle.syn_grammar.specs.Normal.{place_of, passed, stands_behind, apart, apart_raw, apart_alternative, apart_item}
+use Rattle.syn_grammar.specs.Normal.{apart_if, is_enclosed, normal_in, formed}
 
 -- an item of a file, of a module or among statements
 abbrev pub is_item : Kind → Bool
@@ -460,9 +460,17 @@ module _ (S : Bool) (T U : Tree → Tree → Type 0 → Type 0) (D : Delimiter �
     bare_turns End h = tt
     bare_turns _ h = absurd h
 
+  every_raw : (x : Tree) → B x → B (apart_raw x)
+  every_raw (Node AnItem (Raw ts)) h = close ts h
+  every_raw _ h = h
+
+  every_alternative : (x : Tree) → B x → B (apart_alternative x)
+  every_alternative (First x) h = every_raw x h
+  every_alternative (Second x) h = every_alternative x h
+  every_alternative _ h = h
+
   every_item : (x : Tree) → B x → B (apart_item x)
-  every_item (Second (Node AStatement (First (Node AnItem (Raw ts))))) h = close ts h
-  every_item (Second (Node AStatement (Second (Second (Second (First (Node AnItem (Raw ts)))))))) h = close ts h
+  every_item (Second (Node AStatement x)) h = every_alternative x h
   every_item _ h = h
 
   set_apart : (b : Bool) (x : Tree) → B x → B (apart_if b x)

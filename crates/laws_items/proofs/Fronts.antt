@@ -33,7 +33,8 @@ use Rattle.syn_grammar.specs.Table.{table}
 use Rattle.syn_grammar.specs.Derives.{Derives}
 use Rattle.syn_grammar.specs.Kept.{held, forget, kept}
 use Rattle.syn_grammar.specs.Tidy.{moved, keeps_generics, without_generics, tidy}
-use Rattle.syn_grammar.specs.Normal.{place_of, passed, apart, apart_item, apart_if, is_enclosed, normal_in}
+use Rattle.syn_grammar.specs.Normal.{place_of, passed, apart, apart_raw, apart_alternative, apart_item, apart_if}
+use Rattle.syn_grammar.specs.Normal.{is_enclosed, normal_in}
 use Rattle.syn_grammar.proofs.Whole.{and_true}
 use Rattle.laws_items.specs.Begins.{first_of}
 
@@ -268,9 +269,18 @@ first_apart (Closes d ∷ ts) v = refl
 first_apart (Ident cs ∷ ts) v = refl
 first_apart (Literal cs ∷ ts) v = refl
 
+first_raw : (x : Tree) (v : List Token) → first_of (flat (apart_raw x) ++ v) ≡ first_of (flat x ++ v)
+first_raw (Node AnItem (Raw ts)) v = first_apart ts v
+first_raw x v = refl
+
+first_alternative : (x : Tree) (v : List Token)
+    → first_of (flat (apart_alternative x) ++ v) ≡ first_of (flat x ++ v)
+first_alternative (First x) v = first_raw x v
+first_alternative (Second x) v = first_alternative x v
+first_alternative x v = refl
+
 first_item : (x : Tree) (v : List Token) → first_of (flat (apart_item x) ++ v) ≡ first_of (flat x ++ v)
-first_item (Second (Node AStatement (First (Node AnItem (Raw ts))))) v = first_apart ts v
-first_item (Second (Node AStatement (Second (Second (Second (First (Node AnItem (Raw ts)))))))) v = first_apart ts v
+first_item (Second (Node AStatement x)) v = first_alternative x v
 first_item x v = refl
 
 pub first_turn : (b : Bool) (x : Tree) (v : List Token) → first_of (flat (apart_if b x) ++ v) ≡ first_of (flat x ++ v)

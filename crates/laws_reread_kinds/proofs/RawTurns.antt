@@ -76,10 +76,11 @@ expression_stays a e s = go (is_macro (form_of e) && is_there s)
     go true = refl
     go false = refl
 
-held_stays : (y : Tree) → apart_item (Second (Node AStatement (as_statement (Second (Second (Second (Second y)))))))
-    ≡ Second (Node AStatement (as_statement (Second (Second (Second (Second y))))))
-held_stays (Pair (Called the_attributes a) (Pair (Called the_expression e) s)) = expression_stays a e s
-held_stays _ = refl
+held_stays : (y z : Tree)
+    → apart_item (Second (Node AStatement (as_statement (Second (Second (Second (Second (Pair y z))))))))
+    ≡ Second (Node AStatement (as_statement (Second (Second (Second (Second (Pair y z)))))))
+held_stays (Called the_attributes a) (Pair (Called the_expression e) s) = expression_stays a e s
+held_stays _ _ = refl
 
 -- a statement that is an item
 abbrev named_turn : Kind → Tree → Tree
@@ -118,17 +119,21 @@ statement_printed (First (Node k y)) f =
     subst (λ j. Printed a_turn (apart_item (kept (named_turn j y)))) (sym e)
     (named_printed y (subst (λ j. Fits (named_turn j y) a_turn) e f))
 statement_printed (First _) f = absurd f.1.3.1
-statement_printed (Second (First y)) f = unmoved_turn true (Second (Node AStatement (Second (First y)))) a_turn f refl
-statement_printed (Second (Second (First y))) f =
-    unmoved_turn true (Second (Node AStatement (Second (Second (First y))))) a_turn f refl
+statement_printed (Second (First (Pair y z))) f =
+    unmoved_turn true (Second (Node AStatement (Second (First (Pair y z))))) a_turn f refl
+statement_printed (Second (First _)) f = absurd f.1.3.1.1
+statement_printed (Second (Second (First (Pair y z)))) f =
+    unmoved_turn true (Second (Node AStatement (Second (Second (First (Pair y z)))))) a_turn f refl
+statement_printed (Second (Second (First _))) f = absurd f.1.3.1.1.1
 statement_printed (Second (Second (Second (First (Node k y))))) f =
     let e : k ≡ AnItem = f.1.3.1.1.1.1.0 in
     subst (λ j. Printed a_turn (apart_item (kept (item_turn j y)))) (sym e)
     (item_printed y (subst (λ j. Fits (item_turn j y) a_turn) e f))
 statement_printed (Second (Second (Second (First _)))) f = absurd f.1.3.1.1.1.1
-statement_printed (Second (Second (Second (Second y)))) f =
-    unmoved_turn true (Second (Node AStatement (Second (Second (Second (Second y)))))) a_turn f
-    (held_stays (kept y))
+statement_printed (Second (Second (Second (Second (Pair y z))))) f =
+    unmoved_turn true (Second (Node AStatement (Second (Second (Second (Second (Pair y z))))))) a_turn f
+    (held_stays (kept y) (kept z))
+statement_printed (Second (Second (Second (Second _)))) f = absurd f.1.3.1.1.1.1
 statement_printed (Second (Second (Second _))) f = absurd f.1.3.1.1.1
 statement_printed (Second (Second _)) f = absurd f.1.3.1.1
 statement_printed (Second _) f = absurd f.1.3.1

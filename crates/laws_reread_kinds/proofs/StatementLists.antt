@@ -4,9 +4,9 @@ use Rattle.std.proofs.Common.{[], ap, append_assoc, inl, inr, List, refl, subst,
 use Rattle.std.specs.Prelude.{Bool, codes, cond, false, not, true, ◌&&◌, ◌⊎◌}
 use Rattle.std.proofs.lemmas.Bool.{false≢true}
 use Rattle.proc_macro2.specs.Token.{Token}
-use Rattle.syn_grammar.specs.Kind.{AnItem, AStatement, InStatement, Kind, Plain, Position, Statements}
+use Rattle.syn_grammar.specs.Kind.{AStatement, InStatement, Kind, Plain, Position, Statements}
 use Rattle.syn_grammar.specs.Name.{the_attributes, the_expression}
-use Rattle.syn_grammar.specs.Tree.{Again, Called, End, First, flat, Nil, Node, Pair, Raw, Second, Tree, Verbatim}
+use Rattle.syn_grammar.specs.Tree.{Again, Called, End, First, flat, Nil, Node, Pair, Second, Tree, Verbatim}
 use Rattle.syn_grammar.specs.Part.{choice, each_turn_but_last}
 use Rattle.syn_grammar.specs.Gram.{ref, star}
 use Rattle.syn_grammar.specs.Look.{lacks, no, sees, the_end, ◌then◌}
@@ -161,16 +161,8 @@ lone_seen (Again _ y) r d e = absurd (false≢true e)
 lone_seen _ r d e = absurd (false≢true e)
 
 first_apart : (b : Bool) (x : Tree) → is_first (apart_if b (Second (Node AStatement x))) ≡ false
+first_apart true x = refl
 first_apart false x = refl
-first_apart true (First (Node AnItem (Raw ts))) = refl
-first_apart true (First (Node AnItem _)) = refl
-first_apart true (First (Node _ y)) = refl
-first_apart true (First _) = refl
-first_apart true (Second (Second (Second (First (Node AnItem (Raw ts)))))) = refl
-first_apart true (Second (Second (Second (First (Node AnItem _))))) = refl
-first_apart true (Second (Second (Second (First (Node _ y))))) = refl
-first_apart true (Second (Second (Second (First _)))) = refl
-first_apart true _ = refl
 
 lone_back : (q : Position) (y w : Tree) (r : List Token) → Derives y (star (lacks the_end) a_turn) r
     → Fits w (star (lacks the_end) a_turn) → kept w ≡ normal_in q (kept y) → is_lone_mark w ≡ true

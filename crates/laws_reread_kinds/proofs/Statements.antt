@@ -20,7 +20,8 @@ use Rattle.syn_grammar.specs.Forms.{ends_there, form_of, front, has_right, insid
 use Rattle.syn_grammar.specs.Table.{table}
 use Rattle.syn_grammar.specs.Derives.{Derives}
 use Rattle.syn_grammar.specs.Kept.{as_statement, attributed, held, is_macro, is_there, kept, own_part}
-use Rattle.syn_grammar.specs.Normal.{apart_if, formed, is_enclosed, normal, normal_in, passed, place_of, stands_behind}
+use Rattle.syn_grammar.specs.Normal.{apart_if, apart_raw, formed, is_enclosed, normal, normal_in, passed, place_of}
+use Rattle.syn_grammar.specs.Normal.{stands_behind}
 use Rattle.syn_grammar.specs.Parens.{begins_in, follow, in_parens, may_lack, parens_unless, stands_in}
 use Rattle.syn_grammar.specs.Parens.{takes_what_follows, with_left, with_right}
 use Rattle.syn_grammar.proofs.Settled.{normal_twice}
@@ -701,17 +702,18 @@ pub open_as : (a x : Tree) → is_attributes a ≡ true
 unfolding held
 open_as a x e = held_open (kept a) (kept x) (attributes_kept a e)
 
+open_raw : (x : Tree) → is_open (Second (First (apart_raw x))) ≡ is_open (Second (First x))
+open_raw (Node AnItem (Raw ts)) = refl
+open_raw _ = refl
+
 open_apart : (b : Bool) (x : Tree) → is_open_turn (apart_if b (Second (Node AStatement x))) ≡ is_open x
 open_apart false x = refl
-open_apart true (First (Node AnItem (Raw ts))) = refl
-open_apart true (First (Node AnItem _)) = refl
-open_apart true (First (Node _ y)) = refl
-open_apart true (First _) = refl
-open_apart true (Second (Second (Second (First (Node AnItem (Raw ts)))))) = refl
-open_apart true (Second (Second (Second (First (Node AnItem _))))) = refl
-open_apart true (Second (Second (Second (First (Node _ y))))) = refl
-open_apart true (Second (Second (Second (First _)))) = refl
-open_apart true (Second (Second (Second (Second x)))) = refl
+open_apart true (First x) = refl
+open_apart true (Second (First x)) = open_raw x
+open_apart true (Second (Second (First x))) = refl
+open_apart true (Second (Second (Second (First x)))) = refl
+open_apart true (Second (Second (Second (Second (First x))))) = refl
+open_apart true (Second (Second (Second (Second (Second x))))) = refl
 open_apart true _ = refl
 
 open_normal : (x : Tree) → is_open (normal x) ≡ is_open x

@@ -23,8 +23,8 @@ use Rattle.syn_grammar.specs.Tidy.{is_lifetime_argument, joined, those_then, oth
 use Rattle.syn_grammar.specs.Tidy.{moved, keeps_generics, without_generics, tidy}
 use Rattle.syn_grammar.specs.Parens.{parens_unless, may_lack, takes_what_follows, stays_right, stays_left, with_right}
 use Rattle.syn_grammar.specs.Parens.{with_left, begins_in, stands_in, follow, alone}
-use Rattle.syn_grammar.specs.Normal.{place_of, passed, stands_behind, apart_item, is_enclosed, normal_in, formed}
-use Rattle.syn_grammar.specs.Normal.{normal}
+use Rattle.syn_grammar.specs.Normal.{place_of, passed, stands_behind, apart_raw, apart_alternative, apart_item}
+use Rattle.syn_grammar.specs.Normal.{is_enclosed, normal_in, formed, normal}
 use Rattle.syn_grammar.proofs.KeptForms.{IsUnsplit, KeptForm, form_cond, changed_form, all_kept, kept_form}
 
 -- what a kind holds of its tree it holds of the normal form
@@ -305,11 +305,31 @@ tidy_form AnImpl x h = form_cond (keeps_generics x) x (changed the_generics with
     (changed_form the_generics without_generics without_form x h)
 tidy_form _ x h = h
 
+-- a raw item's last mark set apart
+raw_form : (x : Tree) → KeptForm x → KeptForm (apart_raw x)
+unfolding KeptForm
+raw_form (Node AnItem (Raw ts)) h = (h.0, refl, tt)
+raw_form _ h = h
+
+alternative_form : (x : Tree) → KeptForm x → KeptForm (apart_alternative x)
+unfolding KeptForm
+alternative_form (First x) h = raw_form x h
+alternative_form (Second x) h = alternative_form x h
+alternative_form _ h = h
+
+-- an expression is none
+statement_form : (x : Tree) → as_statement x ≡ x → as_statement (apart_alternative x) ≡ apart_alternative x
+statement_form (First x) e = refl
+statement_form (Second (First x)) e = refl
+statement_form (Second (Second (First x))) e = refl
+statement_form (Second (Second (Second (First x)))) e = refl
+statement_form (Second (Second (Second (Second (First x))))) e = refl
+statement_form (Second (Second (Second (Second (Second x))))) e = refl
+statement_form _ e = e
+
 item_form : (x : Tree) → KeptForm x → KeptForm (apart_item x)
 unfolding KeptForm
-item_form (Second (Node AStatement (First (Node AnItem (Raw ts))))) h = (h.0, refl, (h.2.0, refl, tt))
-item_form (Second (Node AStatement (Second (Second (Second (First (Node AnItem (Raw ts)))))))) h =
-    (h.0, refl, (h.2.0, refl, tt))
+item_form (Second (Node AStatement x)) h = (h.0, statement_form x h.1, alternative_form x h.2)
 item_form _ h = h
 
 parens_form : (b : Bool) (x : Tree) → KeptForm x → KeptForm (parens_unless b x)

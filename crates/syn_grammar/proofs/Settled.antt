@@ -20,8 +20,8 @@ use Rattle.syn_grammar.specs.Parens.{in_parens, parens_unless, may_lack, takes_w
 use Rattle.syn_grammar.specs.Parens.{is_attributed_range, stays_right, is_struct, stays_left, begins_in, stands_in}
 use Rattle.syn_grammar.specs.Parens.{follow, alone, with_right, with_left, front_form, back_form, infix_form}
 use Rattle.syn_grammar.specs.Tidy.{tidy}
-use Rattle.syn_grammar.specs.Normal.{place_of, passed, stands_behind, apart_item, apart_if, is_enclosed, normal_in}
-use Rattle.syn_grammar.specs.Normal.{formed}
+use Rattle.syn_grammar.specs.Normal.{place_of, passed, stands_behind, apart_raw, apart_alternative, apart_item}
+use Rattle.syn_grammar.specs.Normal.{apart_if, is_enclosed, normal_in, formed}
 use Rattle.syn_grammar.proofs.TidyTwice.{IsNormal, both_normal, then_normal, tidy_normal, tidy_twice}
 use Rattle.syn_grammar.proofs.Whole.{and_true}
 
@@ -378,10 +378,19 @@ not_enclosed : (b : Bool) → (b && not b) ≡ false
 not_enclosed true = refl
 not_enclosed false = refl
 
+raw_normal : (q : Position) (x : Tree) → IsNormal q x → IsNormal q (apart_raw x)
+raw_normal q (Node AnItem (Raw ts)) e = refl
+raw_normal q _ e = e
+
+alternative_normal : (q : Position) (x : Tree) → IsNormal q x → IsNormal q (apart_alternative x)
+alternative_normal q (First x) e = ap First (raw_normal q x (cc e))
+alternative_normal q (Second x) e = ap Second (alternative_normal q x (cc e))
+alternative_normal q _ e = e
+
 apart_normal : (q : Position) (x : Tree) → IsNormal q x → IsNormal q (apart_item x)
 unfolding passed
-apart_normal q (Second (Node AStatement (First (Node AnItem (Raw ts))))) e = refl
-apart_normal q (Second (Node AStatement (Second (Second (Second (First (Node AnItem (Raw ts)))))))) e = refl
+apart_normal q (Second (Node AStatement x)) e =
+    ap (λ y. Second (Node AStatement y)) (alternative_normal Plain x (cc e))
 apart_normal q _ e = e
 
 apart_if_normal : (b : Bool) (q : Position) (x : Tree) → IsNormal q x → IsNormal q (apart_if b x)

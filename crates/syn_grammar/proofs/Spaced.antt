@@ -33,8 +33,8 @@ use Rattle.syn_grammar.specs.Tidy.{is_lifetime_argument, joined, those_then, oth
 use Rattle.syn_grammar.specs.Tidy.{moved, keeps_generics, without_generics, tidy}
 use Rattle.syn_grammar.specs.Parens.{parens_unless, stays_right, stays_left, with_right, with_left, begins_in}
 use Rattle.syn_grammar.specs.Parens.{stands_in, takes_what_follows, follow}
-use Rattle.syn_grammar.specs.Normal.{place_of, passed, stands_behind, apart, apart_item, is_enclosed, normal_in, formed}
-use Rattle.syn_grammar.specs.Normal.{normal}
+use Rattle.syn_grammar.specs.Normal.{place_of, passed, stands_behind, apart, apart_raw, apart_alternative, apart_item}
+use Rattle.syn_grammar.specs.Normal.{is_enclosed, normal_in, formed, normal}
 use Rattle.syn_grammar.proofs.Whole.{and_true}
 use Rattle.syn_grammar.proofs.Marks.{all_calm}
 
@@ -435,9 +435,17 @@ apart_same (Literal cs ∷ ts) w = ap (λ us. Literal cs ∷ us) (apart_same ts 
 calm_apart : (ts : List Token) → MayPrecede ts → MayPrecede (apart ts)
 calm_apart ts m = subst MayPrecede (sym (apart_same ts (m [] tt))) m
 
+calm_raw : (x : Tree) → Calm x → Calm (apart_raw x)
+calm_raw (Node AnItem (Raw ts)) h = calm_apart ts h
+calm_raw _ h = h
+
+calm_alternative : (x : Tree) → Calm x → Calm (apart_alternative x)
+calm_alternative (First x) h = calm_raw x h
+calm_alternative (Second x) h = calm_alternative x h
+calm_alternative _ h = h
+
 calm_item : (x : Tree) → Calm x → Calm (apart_item x)
-calm_item (Second (Node AStatement (First (Node AnItem (Raw ts))))) h = calm_apart ts h
-calm_item (Second (Node AStatement (Second (Second (Second (First (Node AnItem (Raw ts)))))))) h = calm_apart ts h
+calm_item (Second (Node AStatement x)) h = calm_alternative x h
 calm_item _ h = h
 
 calm_parens : (b : Bool) (x : Tree) → Calm x → Calm (parens_unless b x)

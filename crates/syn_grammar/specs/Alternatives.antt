@@ -10,14 +10,8 @@ a_statement x = Second (Node AStatement x)
 
 -- A statement is an item that is a macro, or attributes, a macro and perhaps ; , or a let, or another item, or an
 -- expression behind its attributes and before what may be a ; .
-abbrev pub a_macro_item : Tree → Tree
-a_macro_item x = First x
-
 abbrev pub a_macro_statement : Tree → Tree → Tree → Tree
 a_macro_statement attributes mac semicolon = Second (First (Pair attributes (Pair mac semicolon)))
-
-abbrev pub an_item : Tree → Tree
-an_item x = Second (Second (Second (First x)))
 
 abbrev pub an_expression : Tree → Tree → Tree → Tree
 an_expression attributes e semicolon =

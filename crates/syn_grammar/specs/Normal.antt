@@ -18,7 +18,7 @@ use Rattle.rust_leaf.specs.declared.punct.Spacing.TheVariants.{Alone as Apart}
 use Rattle.syn_grammar.specs.Kind.{Kind, Position, Plain, InCondition, InArm, InStatement, Expression, AStatement}
 use Rattle.syn_grammar.specs.Kind.{AnItem, Visibility}
 use Rattle.syn_grammar.specs.Name.{Part, the_condition, the_body, the_expression}
-use Rattle.syn_grammar.specs.Alternatives.{a_statement, a_macro_item, an_item}
+use Rattle.syn_grammar.specs.Alternatives.{a_statement}
 use Rattle.syn_grammar.specs.Tree.{Tree, AWord, ALiteral, AMark, ALifetime, Raw, Nil, Pair, First, Second, End, Again}
 use Rattle.syn_grammar.specs.Tree.{Final, More, Group, Dropped, Called, Verbatim, Hidden, Node, Whole, Alone, Front}
 use Rattle.syn_grammar.specs.Tree.{Back, Infix, flat}
@@ -55,12 +55,20 @@ apart [] = []
 apart (Punct c spacing ∷ []) = Punct c Apart ∷ []
 apart (t ∷ ts) = t ∷ apart ts
 
+-- of a raw item
+abbrev pub apart_raw : Tree → Tree
+apart_raw (Node AnItem (Raw ts)) = Node AnItem (Raw (apart ts))
+apart_raw x = x
+
+-- of a statement's alternative, whichever it is, where that is a raw item
+abbrev pub apart_alternative : Tree → Tree
+apart_alternative (First x) = First (apart_raw x)
+apart_alternative (Second x) = Second (apart_alternative x)
+apart_alternative x = x
+
 -- of a raw item among statements
 abbrev pub apart_item : Tree → Tree
-apart_item (Second (Node AStatement (First (Node AnItem (Raw ts))))) =
-    a_statement (a_macro_item (Node AnItem (Raw (apart ts))))
-apart_item (Second (Node AStatement (Second (Second (Second (First (Node AnItem (Raw ts)))))))) =
-    a_statement (an_item (Node AnItem (Raw (apart ts))))
+apart_item (Second (Node AStatement x)) = a_statement (apart_alternative x)
 apart_item x = x
 
 -- a parenthesis stands in front that stood not there before

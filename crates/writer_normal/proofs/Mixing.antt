@@ -8,7 +8,7 @@ use Rattle.rust_leaf.specs.declared.punct.Spacing.TheVariants.{Alone as Apart}
 use Rattle.syn_grammar.specs.Kind.{Kind, Position, Plain, AStatement, AnItem, GenericParams, Arguments, ATypeAlias}
 use Rattle.syn_grammar.specs.Forms.{inside}
 use Rattle.syn_grammar.specs.Name.{Part, same_part, the_arguments, the_value}
-use Rattle.syn_grammar.specs.Normal.{apart_if, apart_item, formed, is_enclosed, normal_in}
+use Rattle.syn_grammar.specs.Normal.{apart_alternative, apart_if, apart_item, apart_raw, formed, is_enclosed, normal_in}
 use Rattle.syn_grammar.specs.Parens.{begins_in, follow, parens_unless, stays_left, stays_right}
 use Rattle.syn_grammar.specs.Parens.{takes_what_follows, with_left, with_right}
 use Rattle.syn_grammar.specs.Part.{changed}
@@ -74,9 +74,17 @@ mixed_seconds (suc n) x = mixed_seconds n x
 pub ruleset places = (pair_front, pair_back, mixed_seconds)
 
 -- turns, and those that are set apart
+mixed_raw : (x : Tree) → is_mixed (apart_raw x) ≡ is_mixed x
+mixed_raw (t.Node AnItem (t.Raw ts)) = refl
+mixed_raw x = refl
+
+mixed_alternative : (x : Tree) → is_mixed (apart_alternative x) ≡ is_mixed x
+mixed_alternative (t.First x) = mixed_raw x
+mixed_alternative (t.Second x) = mixed_alternative x
+mixed_alternative x = refl
+
 mixed_apart : (x : Tree) → is_mixed (apart_item x) ≡ is_mixed x
-mixed_apart (t.Second (t.Node AStatement (t.First (t.Node AnItem (t.Raw ts))))) = refl
-mixed_apart (t.Second (t.Node AStatement (t.Second (t.Second (t.Second (t.First (t.Node AnItem (t.Raw ts)))))))) = refl
+mixed_apart (t.Second (t.Node AStatement x)) = mixed_alternative x
 mixed_apart x = refl
 
 mixed_apart_if : (b : Bool) (x : Tree) → is_mixed (apart_if b x) ≡ is_mixed x

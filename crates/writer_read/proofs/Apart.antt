@@ -21,6 +21,11 @@ use Rattle.writer_read.specs.Formed.{HasGiven, IsFormed, IsFormedStatement}
 use Rattle.writer_read.proofs.Fits.{is_turn}
 
 -- a statement, by what stands first
+seq_two : (F : Tree → Type 0) (x : Tree) (g h : Gram) (r : List Token) → Derives x (seq g h) r
+    → ((y z : Tree) → F (Pair y z)) → F x
+seq_two F (Pair y z) g h r d a = a y z
+seq_two F _ g h r d a = absurd d
+
 pub alt_two : (F : Tree → Type 0) (x : Tree) (t : List Token → Bool) (g h : Gram) (r : List Token)
     → Derives x (alt t g h) r → ((y : Tree) → Derives y g r → F (First y)) → ((y : Tree) → Derives y h r → F (Second y))
     → F x
@@ -81,12 +86,12 @@ third_item (Back l k y) h = absurd h
 third_item _ h = refl
 
 -- no other statement is one
-macro_or_not : (b : Bool) (x y : Tree)
+macro_or_not : (b : Bool) (w x y z : Tree)
     → flat (apart_item (Second (Node AStatement (normal_in Plain
-    (cond b (Second (First x)) (Second (Second (Second (Second y)))))))))
-    ≡ flat (normal_in Plain (cond b (Second (First x)) (Second (Second (Second (Second y))))))
-macro_or_not true x y = refl
-macro_or_not false x y = refl
+    (cond b (Second (First (Pair w x))) (Second (Second (Second (Second (Pair y z))))))))))
+    ≡ flat (normal_in Plain (cond b (Second (First (Pair w x))) (Second (Second (Second (Second (Pair y z)))))))
+macro_or_not true w x y z = refl
+macro_or_not false w x y z = refl
 
 expression_apart : (x : Tree) → HasGiven x
     → flat (apart_item (Second (Node AStatement (normal_in Plain
@@ -95,9 +100,9 @@ expression_apart : (x : Tree) → HasGiven x
 unfolding held
 expression_apart
     (Pair (Called the_attributes a) (Pair (Called the_expression (Node (Expression q) (Whole z))) s)) h =
-    macro_or_not (is_macro (kept z) && is_there (kept s)) (Pair (kept a) (Pair (own_part (kept z)) (kept s)))
-    (Pair (Called the_attributes (left_in_front (kept a)))
-    (Pair (Called the_expression (given (kept a) (Node (Expression Plain) (Whole (kept z))))) (kept s)))
+    macro_or_not (is_macro (kept z) && is_there (kept s)) (kept a) (Pair (own_part (kept z)) (kept s))
+    (Called the_attributes (left_in_front (kept a)))
+    (Pair (Called the_expression (given (kept a) (Node (Expression Plain) (Whole (kept z))))) (kept s))
 expression_apart _ h = absurd h
 
 abbrev Apart : (Tree → Tree) → Tree → Type 0
@@ -110,8 +115,10 @@ unfolding table held passed
 statement_apart x r d =
     alt_two (Apart (λ y. y)) x _ _ _ r d
     (λ y c. node_case (λ u. Apart First u) y AnItem r c (λ i e h n. first_item i h))
-    (λ x1 d1. alt_two (Apart (λ y. Second y)) x1 _ _ _ r d1 (λ y c h n. refl)
-    (λ x2 d2. alt_two (Apart (λ y. Second (Second y))) x2 _ _ _ r d2 (λ y c h n. refl)
+    (λ x1 d1. alt_two (Apart (λ y. Second y)) x1 _ _ _ r d1
+    (λ y c. seq_two (Apart (λ u. Second (First u))) y _ _ r c (λ u v h n. refl))
+    (λ x2 d2. alt_two (Apart (λ y. Second (Second y))) x2 _ _ _ r d2
+    (λ y c. seq_two (Apart (λ u. Second (Second (First u)))) y _ _ r c (λ u v h n. refl))
     (λ x3 d3. alt_two (Apart (λ y. Second (Second (Second y)))) x3 _ _ _ r d3
     (λ y c. node_case (λ u. Apart (λ v. Second (Second (Second (First v)))) u) y AnItem r c
     (λ i e h n. third_item i h))
