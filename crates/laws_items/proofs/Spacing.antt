@@ -19,7 +19,7 @@ use Rattle.syn_grammar.specs.Calm.{calm_marks, MayPrecede}
 use Rattle.syn_grammar.specs.Normal.{apart, apart_if, is_enclosed, normal_in}
 use Rattle.syn_grammar.proofs.Spaced.{next_any, marks_precede, both_precede}
 use Rattle.laws_items.specs.Begins.{unspaced, first_of}
-use Rattle.laws_items.proofs.Every.{Every, EveryTurn, AnyText, is_item, is_row, item_kind, out_node, out_row}
+use Rattle.syn_grammar.proofs.Every.{Every, EveryTurn, AnyText, is_item, is_row, item_kind, out_node, out_row}
 use Rattle.laws_items.proofs.Fronts.{first_apart}
 use Rattle.laws_items.proofs.Statements.{Starts, TurnStarts}
 

@@ -12,8 +12,8 @@ use Rattle.syn_grammar.specs.Tree.{Back, Infix, marks, flat}
 use Rattle.syn_grammar.specs.Kept.{kept}
 use Rattle.syn_grammar.specs.Normal.{apart, normal}
 use Rattle.laws_items.specs.Visible.{AllVisible}
-use Rattle.laws_items.proofs.Every.{Every, no_row, AnyText, AnyMark, AnyTurn, in_any, out_any}
-use Rattle.laws_items.proofs.Every.{every_kept, every_normal}
+use Rattle.syn_grammar.proofs.Every.{Every, no_row, AnyText, AnyMark, AnyTurn, in_any, out_any}
+use Rattle.syn_grammar.proofs.Every.{every_kept, every_normal}
 
 abbrev Printed : Delimiter → Type 0
 Printed d = IsTrue (is_visible d)
