@@ -1,4 +1,4 @@
--- Trees whose tokens may stand before all others, and what hinders it: a raw form that ends in a joint mark.
+-- What may stand before all other tokens, and what hinders it: a raw form that ends in a joint mark.
 use Rattle.std.specs.Prelude.{◌≡◌, ℕ, Bool, true, false, ◌&&◌, not, ◌==◌, List, [], ◌∷◌, ◌++◌}
 use Rattle.proc_macro2.specs.Token.{Token, Punct}
 use Rattle.rust_leaf.specs.declared.punct.Spacing.TheVariants.{Joint}
