@@ -1,4 +1,3 @@
-pub mod Every
 pub mod Fronts
 pub mod Statements
 pub mod Spacing

@@ -26,13 +26,13 @@ use Rattle.syn_grammar.specs.Tidy.{tidy}
 use Rattle.syn_grammar.specs.Normal.{apart, apart_if, is_enclosed, passed, normal_in, normal}
 use Rattle.syn_grammar.proofs.Whole.{and_true}
 use Rattle.syn_grammar.proofs.Marks.{all_calm}
-use Rattle.syn_grammar.proofs.Spaced.{loose, cut, spaced_behind, apart_same}
+use Rattle.syn_grammar.proofs.Every.{AnyText, is_item, is_row, in_node, every_forget, every_dotted, every_normal}
+use Rattle.syn_grammar.proofs.Spaced.{loose, cut, spaced_behind, Printed, CalmMark, apart_same}
 use Rattle.laws_items.specs.Begins.{first_of, is_element}
-use Rattle.laws_items.proofs.Every.{AnyText, is_item, is_row, in_node, every_forget, every_dotted, every_normal}
 use Rattle.laws_items.proofs.Fronts.{not_true, first_turn, kept_or_refused, lead, leads}
 use Rattle.laws_items.proofs.Statements.{Starts, TurnStarts, same_turn, turn_starts, node_case, first_passes}
-use Rattle.laws_items.proofs.Spacing.{alike, unquoted, apart_precedes, Loose, Printed, CalmMark, LooseTurn}
-use Rattle.laws_items.proofs.Spacing.{StandingTurn, Quiet, QuietTurns, Still, precedes, unenclosed}
+use Rattle.laws_items.proofs.Spacing.{alike, unquoted, apart_precedes, Loose, LooseTurn, StandingTurn, Quiet}
+use Rattle.laws_items.proofs.Spacing.{QuietTurns, Still, precedes, unenclosed}
 use Rattle.laws_items.proofs.Tame.{Tame, tame, all_tame}
 use Rattle.laws_items.proofs.Ends.{unquoted_tree}
 

@@ -8,9 +8,9 @@ use Rattle.syn_grammar.specs.Tree.{Final, More, Group, Dropped, Called, Verbatim
 use Rattle.syn_grammar.specs.Tree.{Back, Infix, flat}
 use Rattle.syn_grammar.specs.Kept.{kept}
 use Rattle.syn_grammar.specs.Normal.{apart, normal}
+use Rattle.syn_grammar.proofs.Every.{Every, is_item, no_row, AnyDelimiter, AnyText, AnyMark, AnyTurn, item_kind}
+use Rattle.syn_grammar.proofs.Every.{in_node, out_node, every_kept, every_normal}
 use Rattle.laws_items.specs.Raws.{IsRaw, HasRaw, HasRawItem, IsSetApart}
-use Rattle.laws_items.proofs.Every.{Every, is_item, no_row, AnyDelimiter, AnyText, AnyMark, AnyTurn, item_kind}
-use Rattle.laws_items.proofs.Every.{in_node, out_node, every_kept, every_normal}
 
 abbrev AllRaw : (List Token → Type 0) → (List Token → Type 0) → Tree → Type 0
 AllRaw P Q x = Every false AnyTurn AnyDelimiter AnyText AnyText AnyMark P Q x

@@ -4,22 +4,18 @@ use Rattle.std.proofs.Common.{◌≡◌, ℕ, List, [], ◌∷◌, ◌++◌, ref
 use Rattle.std.specs.Prelude.{◌⊎◌, Bool, true, false, ◌&&◌, not, ◌==◌, if◌then◌else◌, IsTrue}
 use Rattle.std.proofs.lemmas.List.{append-nil}
 use Rattle.proc_macro2.specs.Token.{Token, Opens, Closes, Ident, Literal, Punct}
-use Rattle.proc_macro2.specs.declared.delimiter.Delimiter.{Delimiter}
 use Rattle.proc_macro2.specs.declared.delimiter.Delimiter.TheVariants.{Parenthesis}
-use Rattle.rust_leaf.specs.declared.punct.Spacing.{Spacing}
 use Rattle.rust_leaf.specs.declared.punct.Spacing.TheVariants.{Alone as Apart, Joint}
-use Rattle.proc_macro2.specs.Spacing.{quote, is_visible, follows_mark, follows_quote, may_stand, IsWellSpaced}
-use Rattle.syn_grammar.specs.Kind.{Kind, Position, AnItem}
-use Rattle.syn_grammar.specs.Tree.{Tree, AWord, ALiteral, AMark, ALifetime, Raw, Nil, Pair, First, Second, End, Again}
-use Rattle.syn_grammar.specs.Tree.{Final, More, Group, Dropped, Called, Verbatim, Hidden, Node, Whole, Alone, Front}
-use Rattle.syn_grammar.specs.Tree.{Back, Infix, marks, flat}
+use Rattle.proc_macro2.specs.Spacing.{quote, follows_mark, follows_quote, may_stand, IsWellSpaced}
+use Rattle.syn_grammar.specs.Kind.{Position}
+use Rattle.syn_grammar.specs.Tree.{Tree, flat}
 use Rattle.syn_grammar.specs.Look.{sees}
 use Rattle.syn_grammar.specs.Say.{parenthesis}
-use Rattle.syn_grammar.specs.Calm.{calm_marks, MayPrecede}
+use Rattle.syn_grammar.specs.Calm.{MayPrecede}
 use Rattle.syn_grammar.specs.Normal.{apart, apart_if, is_enclosed, normal_in}
-use Rattle.syn_grammar.proofs.Spaced.{next_any, marks_precede, both_precede}
+use Rattle.syn_grammar.proofs.Every.{Every, EveryTurn, AnyText}
+use Rattle.syn_grammar.proofs.Spaced.{next_any, both_precede, Printed, CalmMark, every_precedes}
 use Rattle.laws_items.specs.Begins.{unspaced, first_of}
-use Rattle.laws_items.proofs.Every.{Every, EveryTurn, AnyText, is_item, is_row, item_kind, out_node, out_row}
 use Rattle.laws_items.proofs.Fronts.{first_apart}
 use Rattle.laws_items.proofs.Statements.{Starts, TurnStarts}
 
@@ -106,12 +102,6 @@ abbrev pub Loose : Tree → Tree → Type 0
 Loose x y = Stands x y
     × ((p : Position) → Stands (apart_if (is_enclosed y (normal_in p y)) (normal_in p x)) (normal_in p y))
 
-abbrev pub Printed : Delimiter → Type 0
-Printed d = IsTrue (is_visible d)
-
-abbrev pub CalmMark : ℕ → List ℕ → Spacing → Type 0
-CalmMark c cs spacing = (calm_marks c cs ≡ true) × (spacing ≡ Apart)
-
 abbrev pub LooseTurn : Tree → Tree → Type 0 → Type 0
 LooseTurn x y e = e ⊎ Loose x y
 
@@ -128,69 +118,14 @@ QuietTurns x = EveryTurn true LooseTurn Printed AnyText AnyText CalmMark MayPrec
 abbrev pub Still : Tree → Type 0
 Still x = Every true StandingTurn Printed AnyText AnyText CalmMark MayPrecede MayPrecede x
 
-abbrev pub StillTurns : Tree → Type 0
-StillTurns x = EveryTurn true StandingTurn Printed AnyText AnyText CalmMark MayPrecede MayPrecede x
-
 -- such a normal form stands before all that is well spaced
-item_precedes : (x : Tree) → (Still x → MayPrecede (flat x)) → Still (Node AnItem x) → MayPrecede (flat x)
-item_precedes (Raw ts) f h = h
-item_precedes (Verbatim x) f h = h
-item_precedes x f h = f h
-
-node_precedes : (k : Kind) (x : Tree) (b c : Bool) → is_item k ≡ b → is_row k && true ≡ c
-    → (Still x → MayPrecede (flat x)) → (StillTurns x → MayPrecede (flat x)) → Still (Node k x) → MayPrecede (flat x)
-node_precedes k x false false e g f l h =
-    f (out_node true StandingTurn Printed AnyText AnyText CalmMark MayPrecede MayPrecede k x e g h)
-node_precedes k x false true e g f l h =
-    l (out_row true StandingTurn Printed AnyText AnyText CalmMark MayPrecede MayPrecede k x e g h)
-node_precedes k x true c e g f l h = item_precedes x f (subst (λ i. Still (Node i x)) (item_kind k e) h)
-
-turn_precedes : (x y : Tree) → (Still x → MayPrecede (flat x)) → MayPrecede (flat y) → StandingTurn x y (Still x)
-    → MayPrecede (flat x ++ flat y)
-turn_precedes x y f m (inl h) = both_precede (flat x) (flat y) (f h) m
-turn_precedes x y f m (inr h) = λ s v. subst IsWellSpaced (sym (append_assoc (flat x) (flat y) s)) (h s (m s v))
-
-mutual
-  pub precedes : (x : Tree) → Still x → MayPrecede (flat x)
-  precedes (AWord cs) h s v = (refl, v)
-  precedes (ALiteral cs) h s v = (refl, v)
-  precedes (AMark c cs spacing) h s v =
-      subst (λ i. IsWellSpaced (marks c cs i ++ s)) (sym h.1) (marks_precede c cs h.0 s v)
-  precedes (ALifetime cs) h s v = (refl, (refl, v))
-  precedes (Raw ts) h s v = h s v
-  precedes Nil h s v = v
-  precedes (Pair x y) h s v = both_precede (flat x) (flat y) (precedes x h.0) (precedes y h.1) s v
-  precedes (First x) h s v = precedes x h s v
-  precedes (Second x) h s v = precedes x h s v
-  precedes End h s v = v
-  precedes (Again x y) h s v = both_precede (flat x) (flat y) (precedes x h.0) (precedes y h.1) s v
-  precedes (Final x) h s v = precedes x h s v
-  precedes (More x m spacing y) h s v =
-      both_precede (flat x) (Punct m spacing ∷ flat y) (precedes x h.0)
-      (λ u w. subst (λ i. IsWellSpaced (Punct m i ∷ flat y ++ u)) (sym h.1.1) (h.1.0, precedes y h.2 u w)) s v
-  precedes (Group d x) h s v = (
-    h.0,
-    subst IsWellSpaced (sym (append_assoc (flat x) (Closes d ∷ []) s)) (precedes x h.1 (Closes d ∷ s) (h.0, v)),
-  )
-  precedes (Dropped x) h s v = precedes x h s v
-  precedes (Called n x) h s v = precedes x h s v
-  precedes (Verbatim x) h s v = h s v
-  precedes (Hidden x) h s v = v
-  precedes (Node k x) h s v =
-      node_precedes k x (is_item k) (is_row k && true) refl refl (λ i. precedes x i) (λ i. turns_precede x i) h s v
-  precedes (Whole x) h s v = precedes x h s v
-  precedes (Alone k y) h s v = precedes y h s v
-  precedes (Front k y x) h s v = both_precede (flat y) (flat x) (precedes y h.0) (precedes x h.1) s v
-  precedes (Back l k y) h s v = both_precede (flat l) (flat y) (precedes l h.0) (precedes y h.1) s v
-  precedes (Infix l k y r) h s v =
-      both_precede (flat l) (flat y ++ flat r) (precedes l h.0)
-      (both_precede (flat y) (flat r) (precedes y h.1) (precedes r h.2)) s v
-
-  turns_precede : (x : Tree) → StillTurns x → MayPrecede (flat x)
-  turns_precede (First x) h = turns_precede x h
-  turns_precede (Again x y) h = turn_precedes x y (λ i. precedes x i) (turns_precede y h.1) h.0
-  turns_precede End h = λ s v. v
-  turns_precede _ h = absurd h
+pub precedes : (x : Tree) → Still x → MayPrecede (flat x)
+precedes x h = every_precedes true StandingTurn turn_precedes x h
+  where
+    turn_precedes : (x y : Tree) → (Still x → MayPrecede (flat x)) → MayPrecede (flat y) → StandingTurn x y (Still x)
+        → MayPrecede (flat x ++ flat y)
+    turn_precedes x y f m (inl h) = both_precede (flat x) (flat y) (f h) m
+    turn_precedes x y f m (inr h) = λ s v. subst IsWellSpaced (sym (append_assoc (flat x) (flat y) s)) (h s (m s v))
 
 -- a raw item whose last mark was read before what begins so
 empty_first : (us zs : List Token) → ((v : List Token) → first_of us ≡ first_of (zs ++ v)) → first_of us ≡ [] → ⊥

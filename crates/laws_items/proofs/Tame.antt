@@ -16,8 +16,8 @@ use Rattle.syn_grammar.specs.Items.{restriction, trait_form}
 use Rattle.syn_grammar.specs.Verdicts.{strictly}
 use Rattle.syn_grammar.specs.Table.{table}
 use Rattle.syn_grammar.proofs.Whole.{and_true}
+use Rattle.syn_grammar.proofs.Every.{is_row}
 use Rattle.laws_items.specs.Begins.{is_element}
-use Rattle.laws_items.proofs.Every.{is_row}
 use Rattle.laws_items.proofs.Fronts.{not_true, kept_or_refused}
 
 -- Nothing that is read by the entry itself is judged to be raw, and no element of a row is read.

@@ -1,9 +1,8 @@
 -- What is read and printed holds no invisible group.
 use Rattle.std.proofs.Common.{ℕ, List, [], ◌∷◌, ◌++◌, refl}
-use Rattle.std.specs.Prelude.{false, IsTrue}
+use Rattle.std.specs.Prelude.{false}
 use Rattle.proc_macro2.specs.Token.{Token, Opens, Closes, Ident, Literal, Punct}
-use Rattle.proc_macro2.specs.declared.delimiter.Delimiter.{Delimiter}
-use Rattle.proc_macro2.specs.Spacing.{is_visible, IsWellSpaced}
+use Rattle.proc_macro2.specs.Spacing.{IsWellSpaced}
 use Rattle.rust_leaf.specs.declared.punct.Spacing.{Spacing}
 use Rattle.syn_grammar.specs.Kind.{Kind, Plain}
 use Rattle.syn_grammar.specs.Tree.{Tree, AWord, ALiteral, AMark, ALifetime, Raw, Nil, Pair, First, Second, End, Again}
@@ -11,12 +10,10 @@ use Rattle.syn_grammar.specs.Tree.{Final, More, Group, Dropped, Called, Verbatim
 use Rattle.syn_grammar.specs.Tree.{Back, Infix, marks, flat}
 use Rattle.syn_grammar.specs.Kept.{kept}
 use Rattle.syn_grammar.specs.Normal.{apart, normal}
+use Rattle.syn_grammar.proofs.Every.{Every, no_row, AnyText, AnyMark, AnyTurn, in_any, out_any}
+use Rattle.syn_grammar.proofs.Every.{every_kept, every_normal}
+use Rattle.syn_grammar.proofs.Spaced.{Printed}
 use Rattle.laws_items.specs.Visible.{AllVisible}
-use Rattle.laws_items.proofs.Every.{Every, no_row, AnyText, AnyMark, AnyTurn, in_any, out_any}
-use Rattle.laws_items.proofs.Every.{every_kept, every_normal}
-
-abbrev Printed : Delimiter → Type 0
-Printed d = IsTrue (is_visible d)
 
 abbrev V : Tree → Type 0
 V x = Every false AnyTurn Printed AnyText AnyText AnyMark AllVisible AllVisible x

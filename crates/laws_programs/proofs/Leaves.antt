@@ -27,7 +27,7 @@ use Rattle.syn_grammar.specs.Kind.{Kind, Position, Plain}
 use Rattle.syn_grammar.specs.Forms.{inside}
 use Rattle.syn_grammar.specs.Kept.{kept}
 use Rattle.syn_grammar.specs.Normal.{apart, normal}
-use Rattle.laws_items.proofs.Every.{Every, no_row, AnyDelimiter, AnyTurn, in_any, out_any, every_kept, every_normal}
+use Rattle.syn_grammar.proofs.Every.{Every, no_row, AnyDelimiter, AnyTurn, in_any, out_any, every_kept, every_normal}
 use Rattle.laws_programs.proofs.Stacks.{opened, IsMatching, matching_none, matching_both, matching_word}
 use Rattle.laws_programs.proofs.Stacks.{matching_literal, matching_mark, matching_marks, matching_group}
 use Rattle.laws_programs.proofs.Stacks.{matching_apart, matching_balanced}

@@ -1,10 +1,10 @@
--- Trees whose tokens may stand before all others, and what hinders it: a raw form that ends in a joint mark.
-use Rattle.std.specs.Prelude.{◌≡◌, ℕ, Bool, true, false, ◌&&◌, not, ◌==◌, List, [], ◌∷◌, ◌++◌, IsTrue}
+-- What may stand before all other tokens, and what hinders it: a raw form that ends in a joint mark.
+use Rattle.std.specs.Prelude.{◌≡◌, ℕ, Bool, true, false, ◌&&◌, not, ◌==◌, List, [], ◌∷◌, ◌++◌}
 use Rattle.proc_macro2.specs.Token.{Token, Punct}
-use Rattle.rust_leaf.specs.declared.punct.Spacing.TheVariants.{Alone as Apart, Joint}
-use Rattle.proc_macro2.specs.Spacing.{quote, begin_comment, is_visible, IsWellSpaced}
-use Rattle.syn_grammar.specs.Tree.{Tree, AMark, Raw, Pair, First, Second, Again, Final, More, Group, Dropped, Called}
-use Rattle.syn_grammar.specs.Tree.{Verbatim, Node, Whole, Alone, Front, Back, Infix, flat}
+use Rattle.rust_leaf.specs.declared.punct.Spacing.TheVariants.{Joint}
+use Rattle.proc_macro2.specs.Spacing.{quote, begin_comment, IsWellSpaced}
+use Rattle.syn_grammar.specs.Tree.{Tree, Pair, First, Second, Again, Final, More, Group, Called, Verbatim, Node, Whole}
+use Rattle.syn_grammar.specs.Tree.{Alone, Front, Back, Infix, flat}
 use Rattle.syn_grammar.specs.Gram.{Gram, mark, seq, alt, star, many, group, judged, dropped, called}
 
 -- The last of the tokens is no joint mark.
@@ -53,24 +53,3 @@ calm_entry _ = true
 -- well spaced before all that is
 abbrev pub MayPrecede : List Token → Type 0
 MayPrecede ts = (s : List Token) → IsWellSpaced s → IsWellSpaced (ts ++ s)
-
-abbrev pub Calm : Tree → Type 0
-Calm (AMark c cs spacing) = (calm_marks c cs ≡ true) × (spacing ≡ Apart)
-Calm (Raw ts) = MayPrecede ts
-Calm (Pair x y) = Calm x × Calm y
-Calm (First x) = Calm x
-Calm (Second x) = Calm x
-Calm (Again x y) = Calm x × Calm y
-Calm (Final x) = Calm x
-Calm (More x c spacing y) = Calm x × (not (c == quote) ≡ true) × (spacing ≡ Apart) × Calm y
-Calm (Group d x) = IsTrue (is_visible d) × Calm x
-Calm (Dropped x) = Calm x
-Calm (Called n x) = Calm x
-Calm (Verbatim x) = MayPrecede (flat x)
-Calm (Node k x) = Calm x
-Calm (Whole x) = Calm x
-Calm (Alone k y) = Calm y
-Calm (Front k y x) = Calm y × Calm x
-Calm (Back l k y) = Calm l × Calm y
-Calm (Infix l k y r) = Calm l × Calm y × Calm r
-Calm _ = Unit {0}
