@@ -91,9 +91,12 @@ raw_is (c ∷ d ∷ cs) h =
     let (i, n) = and_parts (is_identifier cs) (not (is_never_raw cs)) b in
     let w = word_is cs i in
     let x = eqb-true c 114 r in
-    let y = eqb-true d 35 s in
-    (cs, ap₂ (λ x y. x ∷ y ∷ cs) x y, w,
-    ap begins_never_raw (append-nil cs) ∙ kept_same cs (word_next cs w) ∙ not-true _ n)
+    let y = eqb-true d 35 s in (
+      cs,
+      ap₂ (λ x y. x ∷ y ∷ cs) x y,
+      w,
+      ap begins_never_raw (append-nil cs) ∙ kept_same cs (word_next cs w) ∙ not-true _ n,
+    )
 
 raw_text : (cs : List ℕ) → IsRawWord cs [] → is_raw_identifier cs ≡ true
 raw_text cs (name, e, w, k) =
