@@ -15,7 +15,7 @@ use Rattle.rust_leaf.specs.declared.punct.Spacing.TheVariants.{Alone as Apart}
 use Rattle.syn_grammar.specs.Kind.{Position, AnItem, AStatement}
 use Rattle.syn_grammar.specs.Look.{sees}
 use Rattle.syn_grammar.specs.Say.{parenthesis}
-use Rattle.syn_grammar.specs.Normal.{apart, apart_if, apart_item, is_enclosed, normal_in}
+use Rattle.syn_grammar.specs.Normal.{apart, apart_alternative, apart_if, apart_item, apart_raw, is_enclosed, normal_in}
 use Rattle.syn_grammar.specs.Tree as t
 use Rattle.syn_grammar.specs.Tree.{Tree, flat}
 use Rattle.reader_table.specs.Kinds.{kind_of}
@@ -23,14 +23,12 @@ use Rattle.reader_table.specs.declared.kind.Kind as g
 use Rattle.reader_table.specs.declared.kind.Kind.TheVariants as kinds
 use Rattle.reader_tree.specs.declared.tree.Element.{Element}
 use Rattle.reader_tree.specs.Forms.{mark_of, seconds, turns, elements, ending}
-use Rattle.reader_tree.specs.Shapes.{last_of, node_of}
-use Rattle.writer_rules.specs.Operands.{statement_of}
+use Rattle.reader_tree.specs.Shapes.{node_of}
 use Rattle.writer_rules.specs.Turns.{begun, earlier as before}
-use Rattle.writer_rules.proofs.SeenForms.{node_is, same_pair, some_none}
+use Rattle.writer_rules.proofs.SeenForms.{node_is, some_none}
 use Rattle.writer_read.proofs.Begins.{begun_append, sees_begun}
 use Rattle.writer_normal.proofs.Firsts.{sees_first}
-use Rattle.writer_normal.specs.Parted.{earlier, parted, raw_at, raw_choice, raw_chosen, raw_found, raw_item, raw_stated}
-use Rattle.writer_normal.specs.Parted.{raw_turn}
+use Rattle.writer_normal.specs.Parted.{parted, raw_item, stated_turn}
 
 -- the tokens of a raw item
 pub raw_first : (n : ℕ) (x : Tree) → raw_item (t.Node AnItem (seconds n (t.First x))) ≡ None
@@ -68,37 +66,6 @@ raw_other x k y e h = raw_off k y h ∙ ap raw_item (sym (node_is x (kind_of k) 
 pub raw_none : (x : Tree) → None ≡ node_of x → None ≡ raw_item x
 raw_none (t.Node k y) e = cc
 raw_none x e = refl
-
--- behind some seconds, in a statement, in a turn
-pub found_some : (n : ℕ) (o : Option Tree) (x : Tree) (ts : List Token) → Some x ≡ o → Some ts ≡ raw_item x
-    → Some (n, ts) ≡ raw_found n o
-found_some n o x ts e h = ap (raw_at n) h ∙ ap (raw_found n) e
-
-pub found_other : (n : ℕ) (o : Option Tree) (x : Tree) → Some x ≡ o → None ≡ raw_item x → None ≡ raw_found n o
-found_other n o x e h = ap (raw_at n) h ∙ ap (raw_found n) e
-
-pub found_none : (n : ℕ) (o : Option Tree) → None ≡ o → None ≡ raw_found n o
-found_none n o e = ap (raw_found n) e
-
-pub first_found : (r : ℕ × List Token) (o q : Option (ℕ × List Token)) → Some r ≡ o → Some r ≡ earlier o q
-first_found r o q e = ap (λ p. earlier p q) e
-
-pub later_found : (p o q : Option (ℕ × List Token)) → None ≡ o → p ≡ q → p ≡ earlier o q
-later_found p o q e f = f ∙ ap (λ r. earlier r q) e
-
-pub ruleset founds = (found_some, found_other, found_none, first_found, later_found)
-
-pub turn_none : (x : Tree) → None ≡ last_of x → None ≡ raw_turn x
-turn_none x e = ap raw_chosen e
-
-pub turn_other : (x y : Tree) → Some y ≡ last_of x → None ≡ statement_of y → None ≡ raw_turn x
-turn_other x y e f = ap raw_stated f ∙ ap raw_chosen e
-
-pub turn_stated : (r : Option (ℕ × List Token)) (x y z : Tree) → Some y ≡ last_of x → Some z ≡ statement_of y
-    → r ≡ raw_choice z → r ≡ raw_turn x
-turn_stated r x y z e f h = h ∙ ap raw_stated f ∙ ap raw_chosen e
-
-pub ruleset stateds = (turn_none, turn_other, turn_stated)
 
 -- the last one of tokens is set apart
 skipped : (v w : Token) (ws : List Token) → apart (v ∷ w ∷ ws) ≡ v ∷ apart (w ∷ ws)
@@ -142,42 +109,59 @@ apart_made all es made e p q is mark same spaced put =
     (ap (map entry_token) put ∙ map-append entry_token es (entries.Punct q ∷ [])
     ∙ ap (λ us. map entry_token es ++ us) lone)
 
--- a raw item that is, and what is none
-pub apart_none : (x : Tree) → None ≡ raw_turn x → x ≡ apart_item x
-apart_none (t.Second (t.Node AStatement (t.First (t.Node AnItem (t.Raw ts))))) e = cc
-apart_none (t.Second (t.Node AStatement (t.Second (t.Second (t.Second (t.First (t.Node AnItem (t.Raw ts)))))))) e = cc
+-- a raw item, and what is none
+pub raw_stays : (x : Tree) → None ≡ raw_item x → x ≡ apart_raw x
+raw_stays (t.Node AnItem (t.Raw ts)) e = cc
+raw_stays x e = refl
+
+pub raw_set : (x : Tree) (ts : List Token) → Some ts ≡ raw_item x → t.Node AnItem (t.Raw (apart ts)) ≡ apart_raw x
+raw_set (t.Node AnItem (t.Raw us)) ts e = cc
+raw_set x ts e = absurd (some_none ts e)
+
+-- an alternative, by its form
+pub alternative_seconds : (n : ℕ) (x : Tree) → apart_alternative (seconds n x) ≡ seconds n (apart_alternative x)
+alternative_seconds zero x = refl
+alternative_seconds (suc n) x = ap t.Second (alternative_seconds n x)
+
+pub alternative_mark : (cs : List ℕ) (spacing : Spacing)
+    → apart_alternative (mark_of cs spacing) ≡ mark_of cs spacing
+alternative_mark [] spacing = refl
+alternative_mark (c ∷ cs) spacing = refl
+
+pub alternative_turns : (xs : List Tree) → apart_alternative (turns xs) ≡ turns xs
+alternative_turns [] = refl
+alternative_turns (x ∷ xs) = refl
+
+pub alternative_elements : {A : Type 0} (c : ℕ) (es : List Element) (f : A → Tree) (o : Option A)
+    → apart_alternative (elements c es (ending f o)) ≡ elements c es (ending f o)
+alternative_elements c [] f None = refl
+alternative_elements c [] f (Some y) = refl
+alternative_elements c (e ∷ es) f o = refl
+
+pub ruleset alternatives = (alternative_seconds, alternative_mark, alternative_turns, alternative_elements)
+
+-- a turn that is a statement, and what is none
+apart_none : (x : Tree) → None ≡ stated_turn x → x ≡ apart_item x
+apart_none (t.Second (t.Node AStatement y)) e = cc
 apart_none x e = refl
 
-set_here : (m n : ℕ) (us ts : List Token) → ◌≡◌ {A = Option (ℕ × List Token)} (Some (m, us)) (Some (n, ts))
-    → t.Second (t.Node AStatement (seconds m (t.First (t.Node AnItem (t.Raw (apart us))))))
-    ≡ t.Second (t.Node AStatement (seconds n (t.First (t.Node AnItem (t.Raw (apart ts))))))
-set_here m n us ts e =
-    let s = same_pair m n us ts e in
-    ap (λ i. t.Second (t.Node AStatement (seconds i (t.First (t.Node AnItem (t.Raw (apart us))))))) s.0
-    ∙ ap (λ vs. t.Second (t.Node AStatement (seconds n (t.First (t.Node AnItem (t.Raw (apart vs))))))) s.1
-
-pub apart_some : (x : Tree) (n : ℕ) (ts : List Token) → Some (n, ts) ≡ raw_turn x
-    → t.Second (t.Node AStatement (seconds n (t.First (t.Node AnItem (t.Raw (apart ts)))))) ≡ apart_item x
-apart_some (t.Second (t.Node AStatement (t.First (t.Node AnItem (t.Raw us))))) n ts e = set_here n 0 ts us e
-apart_some (t.Second (t.Node AStatement (t.Second (t.Second (t.Second (t.First (t.Node AnItem (t.Raw us)))))))) n ts e =
-    set_here n 3 ts us e
-apart_some x n ts e = absurd (some_none (n, ts) e)
+apart_some : (x y : Tree) → Some y ≡ stated_turn x → t.Second (t.Node AStatement (apart_alternative y)) ≡ apart_item x
+apart_some (t.Second (t.Node AStatement z)) y e = cc
+apart_some x y e = absurd (some_none y e)
 
 -- set apart where it is enclosed
-pub part_none : (x y : Tree) (b : Bool) → None ≡ raw_turn x → x ≡ apart_if b x
-part_none x y true e = apart_none x e
-part_none x y false e = refl
+pub part_none : (x : Tree) (b : Bool) → None ≡ stated_turn x → x ≡ apart_if b x
+part_none x true e = apart_none x e
+part_none x false e = refl
 
 pub part_stays : (x : Tree) (b : Bool) → b ≡ false → x ≡ apart_if b x
 part_stays x true e = cc
 part_stays x false e = refl
 
-pub part_set : (x y : Tree) (b : Bool) (n : ℕ) (ts us : List Token) → b ≡ true → Some (n, ts) ≡ raw_turn x
-    → us ≡ apart ts → y ≡ t.Second (t.Node AStatement (seconds n (t.First (t.Node AnItem (t.Raw us)))))
-    → y ≡ apart_if b x
-part_set x y false n ts us e f h i = cc
-part_set x y true n ts us e f h i =
-    i ∙ ap (λ vs. t.Second (t.Node AStatement (seconds n (t.First (t.Node AnItem (t.Raw vs)))))) h ∙ apart_some x n ts f
+pub part_set : (x y : Tree) (b : Bool) → b ≡ true → Some y ≡ stated_turn x
+    → t.Second (t.Node AStatement (apart_alternative y)) ≡ apart_if b x
+part_set x y false e f = cc
+part_set x y true e f = apart_some x y f
 
 -- what stands first in what is set apart
 begun_apart : (ts : List Token) → begun (apart ts) ≡ begun ts
@@ -187,10 +171,17 @@ begun_apart (u ∷ []) = refl
 begun_apart (Punct c spacing ∷ v ∷ ts) = refl
 begun_apart (u ∷ v ∷ ts) = refl
 
+begun_raw : (x : Tree) → begun (flat (apart_raw x)) ≡ begun (flat x)
+begun_raw (t.Node AnItem (t.Raw ts)) = begun_apart ts
+begun_raw x = refl
+
+begun_alternative : (x : Tree) → begun (flat (apart_alternative x)) ≡ begun (flat x)
+begun_alternative (t.First x) = begun_raw x
+begun_alternative (t.Second x) = begun_alternative x
+begun_alternative x = refl
+
 begun_item : (x : Tree) → begun (flat (apart_item x)) ≡ begun (flat x)
-begun_item (t.Second (t.Node AStatement (t.First (t.Node AnItem (t.Raw ts))))) = begun_apart ts
-begun_item (t.Second (t.Node AStatement (t.Second (t.Second (t.Second (t.First (t.Node AnItem (t.Raw ts)))))))) =
-    begun_apart ts
+begun_item (t.Second (t.Node AStatement x)) = begun_alternative x
 begun_item x = refl
 
 begun_if : (b : Bool) (x : Tree) → begun (flat (apart_if b x)) ≡ begun (flat x)

@@ -1,13 +1,13 @@
 //! Raw items among statements, whose last mark is set apart.
 
-ghost use Rattle.writer_normal.specs.Parted.{found_of, parted, raw_behind, raw_choice, raw_item, raw_turn};
-ghost use Rattle.reader_tree.specs.Forms.{seconds, turns};
+ghost use Rattle.writer_normal.specs.Parted.{parted, raw_item, stated_turn};
+ghost use Rattle.reader_tree.specs.Forms.{turns};
 ghost use Rattle.rust_leaf.specs.Leaf.{punct_char, punct_spacing};
 ghost use Rattle.rust_leaf.specs.declared.punct.Spacing.TheVariants.{Alone as Apart};
 ghost use Rattle.std.specs.Prelude.{◌++◌, ◌≡◌, IfOk, OnOk, map, option_map};
 ghost use Rattle.syn_buffer.specs.Entries.{entry_token};
 ghost use Rattle.syn_grammar.specs.Kind.{AStatement, AnItem};
-ghost use Rattle.syn_grammar.specs.Normal.{apart, apart_if, is_enclosed};
+ghost use Rattle.syn_grammar.specs.Normal.{apart, apart_alternative, apart_if, apart_raw, is_enclosed};
 ghost use Rattle.syn_grammar.specs.Tree as t;
 
 use crate::first::first_turns;
@@ -21,16 +21,7 @@ use rust_leaf::laws::printed_as_mark;
 use rust_leaf::punct::{Punct, Spacing};
 use std::alloc::AllocError;
 use syn_buffer::entry::Entry;
-use writer_rules::operand::{first_behind, statement};
-
-/// A raw item: how many seconds it stands behind, and its tokens.
-#[derive(Clone, Copy)]
-struct Found<'a> {
-    /// How many seconds.
-    depth: usize,
-    /// Its tokens.
-    entries: &'a [Entry<'a>],
-}
+use writer_rules::operand::statement;
 
 // Tokens that are kept as they are.
 #[tactic(auto, using(crate::proofs::Apartness::raws))]
@@ -52,45 +43,6 @@ fn raw_item<'a>(tree: &Tree<'a>) -> Option<&'a [Entry<'a>]>
             Kind::AnItem => raw(inner),
             _ => None,
         },
-        None => None,
-    }
-}
-
-// Behind so many seconds of a choice the first, if that is a raw item.
-#[tactic(auto, using(crate::proofs::Apartness::founds))]
-fn raw_behind<'a>(tree: &Tree<'a>, depth: usize) -> Option<Found<'a>>
-    ensures { option_map found_of result ≡ raw_behind tree.now depth }
-{
-    match first_behind(tree, depth) {
-        Some(item) => match raw_item(item) {
-            Some(entries) => Some(Found { depth, entries }),
-            None => None,
-        },
-        None => None,
-    }
-}
-
-// Of what stands in a statement the raw item that it is, behind attributes or without.
-#[tactic(auto, using(crate::proofs::Apartness::founds))]
-fn raw_choice<'a>(inner: &Tree<'a>) -> Option<Found<'a>>
-    ensures { option_map found_of result ≡ raw_choice inner.now }
-{
-    match raw_behind(inner, 0) {
-        Some(found) => Some(found),
-        None => raw_behind(inner, 3),
-    }
-}
-
-// Of a turn among statements the raw item that it is.
-#[tactic(auto, using(crate::proofs::Apartness::stateds))]
-fn raw_turn<'a>(turn: &Tree<'a>) -> Option<Found<'a>>
-    ensures { option_map found_of result ≡ raw_turn turn.now }
-{
-    let Some(chosen) = turn.last() else {
-        return None;
-    };
-    match statement(chosen) {
-        Some(inner) => raw_choice(inner),
         None => None,
     }
 }
@@ -123,19 +75,52 @@ fn apart<'a>(arena: &'a Arena, entries: &'a [Entry<'a>]) -> Result<&'a [Entry<'a
     arena.put_all(all)
 }
 
-// The turn that is a raw item with these tokens.
+// A raw item, whose last mark is set apart; any other tree as it is.
+fn apart_raw<'a>(arena: &'a Arena, item: &Tree<'a>) -> Result<Tree<'a>, AllocError>
+    ensures { IfOk result (λ x. x ≡ apart_raw item.now) }
+{
+    let Some(entries) = raw_item(item) else {
+        return Ok(item.copy());
+    };
+    let entries = apart(arena, entries)?;
+    steps::node(arena, Kind::AnItem, made::raw(arena, entries))
+}
+
+// So a statement's alternative, whichever it is.
+#[tactic(auto, using(crate::proofs::Apartness::alternatives))]
+fn apart_alternative<'a>(arena: &'a Arena, choice: &Tree<'a>) -> Result<Tree<'a>, AllocError>
+    ensures { IfOk result (λ x. x ≡ apart_alternative choice.now) }
+{
+    match &choice.form {
+        Form::First(depth, item) => {
+            steps::first_behind(arena, *depth as usize, apart_raw(arena, item))
+        }
+        Form::Second(depth, behind) => {
+            steps::second_behind(arena, *depth, apart_alternative(arena, behind))
+        }
+        _ => Ok(choice.copy()),
+    }
+}
+
+// Of a turn among statements what stands in the statement.
+fn stated_turn<'t, 'a>(turn: &'t Tree<'a>) -> Option<&'t Tree<'a>>
+    ensures { option_map (λ x. x.now) result ≡ stated_turn turn.now }
+{
+    match turn.last() {
+        Some(chosen) => statement(chosen),
+        None => None,
+    }
+}
+
+// The turn in whose statement this stands.
 fn turn_of<'a>(
     arena: &'a Arena,
-    depth: usize,
-    entries: &'a [Entry<'a>],
+    inner: Result<Tree<'a>, AllocError>,
 ) -> Result<Tree<'a>, AllocError>
-    ensures { IfOk result (λ x. x ≡ t.Second (t.Node AStatement (seconds depth (t.First (t.Node AnItem
-        (t.Raw (map entry_token entries.now))))))) }
+    ensures { (x : t.Tree) → IfOk inner.entry (λ z. z ≡ x)
+        → IfOk result (λ z. z ≡ t.Second (t.Node AStatement x)) }
 {
-    let item = steps::node(arena, Kind::AnItem, made::raw(arena, entries));
-    let choice = steps::first_behind(arena, depth, item);
-    let statement = steps::node(arena, Kind::AStatement, choice);
-    steps::seconds(arena, 1, statement)
+    steps::seconds(arena, 1, steps::node(arena, Kind::AStatement, inner))
 }
 
 // Whether a parenthesis stands in front of turns that stood not there before.
@@ -154,14 +139,13 @@ fn part<'a>(
 ) -> Result<Tree<'a>, AllocError>
     ensures { IfOk result (λ x. x ≡ apart_if (is_enclosed (turns before.now) (turns after.now)) turn.now) }
 {
-    let Some(found) = raw_turn(turn) else {
+    let Some(inner) = stated_turn(turn) else {
         return Ok(turn.copy());
     };
     if !is_enclosed(before, after) {
         return Ok(turn.copy());
     }
-    let entries = apart(arena, found.entries)?;
-    turn_of(arena, found.depth, entries)
+    turn_of(arena, apart_alternative(arena, inner))
 }
 
 /// Puts turns in normal form, of which it is said what they were: a raw item's last mark is set apart where a

@@ -7,5 +7,5 @@ use Rattle.writer_normal.proofs.apart.part.Goals as goal
 pub returns-in_default : goal.returns-in_default
 returns-in_default c =
     c.copy.ensures
-    ∙ part_none c.args.turn.now c.args.turn.now (is_enclosed (turns c.args.before.now) (turns c.args.after.now))
+    ∙ part_none c.args.turn.now (is_enclosed (turns c.args.before.now) (turns c.args.after.now))
     c.in_default.ensures
