@@ -35,7 +35,7 @@ pub(crate) static PARAMETER: [Op; 21] = [
     Op::Mark(Sign::DotDotDot), Op::Called(Part::Type), Op::Ref(Kind::AType(Plus::WithPlus)),
 ];
 
-/// One parameter by itself is none with ... .
+/// One parameter by itself, without ... .
 pub(crate) static FN_ARG: [Op; 2] = [Op::Judged(Verdicts::FnArg), Op::Ref(Kind::Parameter)];
 
 /// & 'a? mut? self, or mut? self (: Type)?

@@ -167,7 +167,7 @@ pub(crate) fn segment(style: Style) -> &'static [Op]
     }
 }
 
-/// A qualified path is < Type (as Path)? > and then :: Name, once or more.
+/// A qualified path is < Type (as Path)? > and then :: AnyName, once or more.
 #[rattlefmt::skip]
 static QUALIFIED_PATH_IN_MODULE: [Op; 15] = [
     Op::Seq(1), Op::Mark(Sign::Lt), Op::Seq(1), Op::Ref(Kind::AType(Plus::WithPlus)), Op::Seq(5),
@@ -176,7 +176,7 @@ static QUALIFIED_PATH_IN_MODULE: [Op; 15] = [
     Op::Mark(Sign::Gt), Op::Seq(1), Op::Mark(Sign::PathSep), Op::Ref(Kind::Segments(Style::InModule)),
 ];
 
-/// A qualified path is < Type (as Path)? > and then :: Name, once or more.
+/// A qualified path is < Type (as Path)? > and then :: AnyName, once or more.
 #[rattlefmt::skip]
 static QUALIFIED_PATH_IN_EXPRESSION: [Op; 15] = [
     Op::Seq(1), Op::Mark(Sign::Lt), Op::Seq(1), Op::Ref(Kind::AType(Plus::WithPlus)), Op::Seq(5),
@@ -185,7 +185,7 @@ static QUALIFIED_PATH_IN_EXPRESSION: [Op; 15] = [
     Op::Mark(Sign::Gt), Op::Seq(1), Op::Mark(Sign::PathSep), Op::Ref(Kind::Segments(Style::InExpression)),
 ];
 
-/// A qualified path is < Type (as Path)? > and then :: Name, once or more.
+/// A qualified path is < Type (as Path)? > and then :: AnyName, once or more.
 #[rattlefmt::skip]
 static QUALIFIED_PATH_IN_TYPE: [Op; 15] = [
     Op::Seq(1), Op::Mark(Sign::Lt), Op::Seq(1), Op::Ref(Kind::AType(Plus::WithPlus)), Op::Seq(5),
@@ -194,7 +194,7 @@ static QUALIFIED_PATH_IN_TYPE: [Op; 15] = [
     Op::Mark(Sign::Gt), Op::Seq(1), Op::Mark(Sign::PathSep), Op::Ref(Kind::Segments(Style::InType)),
 ];
 
-/// A qualified path is < Type (as Path)? > and then :: Name, once or more.
+/// A qualified path is < Type (as Path)? > and then :: AnyName, once or more.
 #[rattlefmt::skip]
 static QUALIFIED_PATH_AT_TYPE: [Op; 15] = [
     Op::Seq(1), Op::Mark(Sign::Lt), Op::Seq(1), Op::Ref(Kind::AType(Plus::WithPlus)), Op::Seq(5),
