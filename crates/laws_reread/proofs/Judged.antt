@@ -10,7 +10,7 @@ use Rattle.syn_grammar.specs.Kind.{InTrait, ItemConst, ItemImpl, ItemMacro, OneC
 use Rattle.syn_grammar.specs.Kind.{OneTypeAlias, Path, QualifiedPath, ReturnType, Segment, Segments, Signature}
 use Rattle.syn_grammar.specs.Kind.{InModule, InExpression, InType, AtType, WithPlus, WithoutPlus}
 use Rattle.syn_grammar.specs.Kind.{Plain, InCondition, InArm, InStatement}
-use Rattle.syn_grammar.specs.Name.{same_part, the_generics, the_item, the_value}
+use Rattle.syn_grammar.specs.Name.{same_part, the_const, the_first, the_generics, the_item, the_self, the_value}
 use Rattle.syn_grammar.specs.Name.{the_where}
 use Rattle.syn_grammar.specs.Tree.{Tree, AWord, ALiteral, AMark, ALifetime, Raw, Nil, Pair, First, Second, End, Again}
 use Rattle.syn_grammar.specs.Tree.{Final, More, Group, Dropped, Called, Verbatim, Node, Whole, flat}
@@ -19,7 +19,8 @@ use Rattle.syn_grammar.specs.Gram.{Gram, Verdict, Keep, AsRaw, Refuse, seq, alt,
 use Rattle.syn_grammar.specs.Gram.{called, ref, never as none}
 use Rattle.syn_grammar.specs.Look.{lacks, sees, the_end}
 use Rattle.syn_grammar.specs.Lists.{typed}
-use Rattle.syn_grammar.specs.Verdicts.{const_is_raw, form_in, is_generic, is_where, item_verdict}
+use Rattle.syn_grammar.specs.Verdicts.{const_is_raw, form_in, impl_is_raw, is_generic, is_path_type, is_where}
+use Rattle.syn_grammar.specs.Verdicts.{item_verdict}
 use Rattle.syn_grammar.specs.Verdicts.{marked, raw_if, refused_if, strictly}
 use Rattle.syn_grammar.specs.Table.{table}
 use Rattle.syn_grammar.specs.Derives.{Derives}
@@ -160,7 +161,9 @@ stands_in p k = true
 -- an impl that does
 impl_settled : (p : Place) (v : Bool) (x : Tree) → stands_in p AnImpl ≡ true → form_in p v (Node AnImpl x) ≡ Keep
     → has_own_trait x ≡ true
-impl_settled InFile v x h e = ap not (second_none _ _ (raw_none _ (refused_none _ _ e)))
+impl_settled InFile v x h e =
+    ap not (second_none (has the_const x) (has the_self x && not (is_path_type (the the_first x)))
+    (raw_none (impl_is_raw x) (refused_none _ _ e)))
 impl_settled InTrait v x h e = absurd (false≢true h)
 impl_settled InImpl v x h e = cc e
 impl_settled InForeign v x h e = cc e
