@@ -1,33 +1,33 @@
 -- What the verdict on an item saw of a constant and of an impl: they need not be asked of one that was kept.
 use Rattle.std.proofs.Common.{◌≡◌, List, [], ◌++◌, refl, sym, ap, ◌∙◌, subst}
-use Rattle.std.specs.Prelude.{Bool, true, false, ◌&&◌, ◌||◌, not, cond, Option, Some, None}
+use Rattle.std.specs.Prelude.{Bool, true, false, ◌&&◌, ◌||◌, not, cond, Some, None}
 use Rattle.std.proofs.lemmas.Bool.{false≢true}
 use Rattle.proc_macro2.specs.Token.{Token}
 use Rattle.syn_grammar.specs.Kind.{Kind, Place, AConst, AStatement, OneStatement, Statements, AnImpl, AnImplItem}
 use Rattle.syn_grammar.specs.Kind.{AnItem, AnyPath, AFunction, AType}
 use Rattle.syn_grammar.specs.Kind.{ATraitItem, ATypeAlias, DynType, Expression, ImplType, InForeign, InFile, InImpl}
 use Rattle.syn_grammar.specs.Kind.{InTrait, ItemConst, ItemImpl, ItemMacro, OneConst, OneFunction, OneMacro}
-use Rattle.syn_grammar.specs.Kind.{OneTypeAlias, Path, QualifiedPath, ReturnType, Segment, Segments, Signature, Where}
+use Rattle.syn_grammar.specs.Kind.{OneTypeAlias, Path, QualifiedPath, ReturnType, Segment, Segments, Signature}
 use Rattle.syn_grammar.specs.Kind.{InModule, InExpression, InType, AtType, WithPlus, WithoutPlus}
 use Rattle.syn_grammar.specs.Kind.{Plain, InCondition, InArm, InStatement}
-use Rattle.syn_grammar.specs.Name.{Part, same_part, the_clause, the_first, the_generics, the_item, the_self, the_value}
+use Rattle.syn_grammar.specs.Name.{same_part, the_const, the_first, the_generics, the_item, the_self, the_value}
 use Rattle.syn_grammar.specs.Name.{the_where}
 use Rattle.syn_grammar.specs.Tree.{Tree, AWord, ALiteral, AMark, ALifetime, Raw, Nil, Pair, First, Second, End, Again}
 use Rattle.syn_grammar.specs.Tree.{Final, More, Group, Dropped, Called, Verbatim, Node, Whole, flat}
-use Rattle.syn_grammar.specs.Part.{choice, found, has, is_some, or_else, or_nil, the}
+use Rattle.syn_grammar.specs.Part.{choice, found, has, or_else, or_nil, the}
 use Rattle.syn_grammar.specs.Gram.{Gram, Verdict, Keep, AsRaw, Refuse, seq, alt, star, many, group, judged, dropped}
 use Rattle.syn_grammar.specs.Gram.{called, ref, never as none}
 use Rattle.syn_grammar.specs.Look.{lacks, sees, the_end}
 use Rattle.syn_grammar.specs.Lists.{typed}
-use Rattle.syn_grammar.specs.Verdicts.{const_is_raw, form_in, is_generic, is_path_type, is_where, item_verdict}
+use Rattle.syn_grammar.specs.Verdicts.{const_is_raw, form_in, impl_is_raw, is_generic, is_path_type, is_where}
+use Rattle.syn_grammar.specs.Verdicts.{item_verdict}
 use Rattle.syn_grammar.specs.Verdicts.{marked, raw_if, refused_if, strictly}
 use Rattle.syn_grammar.specs.Table.{table}
 use Rattle.syn_grammar.specs.Derives.{Derives}
-use Rattle.syn_grammar.specs.Kept.{is_there}
 use Rattle.laws_reread_kinds.specs.Covered.{has_lone_value, has_own_trait}
+use Rattle.laws_reread_kinds.proofs.CalledParts.{lacks_part, no_part}
 use Rattle.laws_reread_kinds.proofs.Statements.{a_turn}
-use Rattle.laws_reread_kinds.proofs.Choices.{both_same, both_true, is_false}
-use Rattle.laws_reread_kinds.proofs.Impls.{lacks_part}
+use Rattle.laws_reread_kinds.proofs.Choices.{both_same, both_true}
 use Rattle.laws_reread.specs.Asked.{is_asked_alone}
 use Rattle.laws_reread.proofs.ToldBraces.{goes_there}
 use Rattle.laws_reread.proofs.ToldCalls.{statement_told}
@@ -108,45 +108,6 @@ plain_settled Nil g r d h = refl
 plain_settled End g r d h = refl
 plain_settled _ g r d h = absurd d
 
--- what it reads has none
-pub no_part : (n : Part) (x : Tree) (g : Gram) (r : List Token) → Derives x g r → lacks_part n g ≡ true
-    → found n x ≡ None
-no_part n (Pair x y) (seq a b) r d h =
-    let k = both_true (lacks_part n a) (lacks_part n b) h in
-    ap (λ o. or_else o (found n y)) (no_part n x a _ d.0 k.0) ∙ no_part n y b r d.1 k.1
-no_part n (Pair x y) _ r d h = absurd d
-no_part n (First x) (alt t a b) r d h = no_part n x a r d.1 (both_true (lacks_part n a) (lacks_part n b) h).0
-no_part n (First x) (judged v g) r d h = no_part n x g r d.1 h
-no_part n (First x) _ r d h = absurd d
-no_part n (Second x) (alt t a b) r d h = no_part n x b r d.1 (both_true (lacks_part n a) (lacks_part n b) h).1
-no_part n (Second x) _ r d h = absurd d
-no_part n (Group e x) (group f g) r d h = no_part n x g [] d.1 h
-no_part n (Group e x) _ r d h = absurd d
-no_part n (Called l x) (called m g) r d h =
-    ap (λ b. cond b (Some x) None) (ap (λ j. same_part j n) d.0 ∙ is_false (same_part m n) h)
-no_part n (Called l x) _ r d h = absurd d
-no_part n _ g r d h = refl
-
--- a part that stands behind others
-part_behind : (n : Part) (x y : Tree) (o : Option Tree) → found n x ≡ None → found n y ≡ o → found n (Pair x y) ≡ o
-part_behind n x y o e f = ap (λ p. or_else p (found n y)) e ∙ f
-
--- behind six others
-behind_six : (l : Part) (a c u i g p y : Tree) (o : Option Tree) → found l a ≡ None → found l c ≡ None
-    → found l u ≡ None → found l i ≡ None → found l g ≡ None → found l p ≡ None → found l y ≡ o
-    → found l (Pair a (Pair c (Pair u (Pair i (Pair g (Pair p y)))))) ≡ o
-behind_six l a c u i g p y o ea ec eu ei eg ep e =
-    part_behind l a (Pair c (Pair u (Pair i (Pair g (Pair p y))))) o ea
-    (part_behind l c (Pair u (Pair i (Pair g (Pair p y)))) o ec
-    (part_behind l u (Pair i (Pair g (Pair p y))) o eu
-    (part_behind l i (Pair g (Pair p y)) o ei
-    (part_behind l g (Pair p y) o eg
-    (part_behind l p y o ep e)))))
-
--- and one in front
-part_in_front : (n : Part) (x y z : Tree) → found n x ≡ Some z → found n (Pair x y) ≡ Some z
-part_in_front n x y z e = ap (λ p. or_else p (found n y)) e
-
 -- a verdict that keeps
 raw_none : (b : Bool) → raw_if b ≡ Keep → b ≡ false
 raw_none true e = cc e
@@ -168,83 +129,10 @@ second_none : (a b : Bool) → (a || b) ≡ false → b ≡ false
 second_none true b e = cc e
 second_none false b e = e
 
--- a where clause that is not there holds no token
-where_none : (w : Tree) (r : List Token) → Derives w (table Where) r → has the_clause w ≡ false → is_there w ≡ false
-unfolding table same_part
-where_none (First (Called m z)) r d h =
-    absurd (false≢true (sym h ∙ ap (λ j. is_some (cond (same_part j the_clause) (Some z) None)) d.1.0))
-where_none (First _) r d h = absurd d.1
-where_none (Second w) r d h = refl
-where_none _ r d h = absurd d
-
--- the same of its node
-where_is : (k : Kind) (w : Tree) (r : List Token) → k ≡ Where → Derives w (table k) r
-    → is_where (Node k w) ≡ false → is_there w ≡ false
-where_is k w r e d h =
-    where_none w r (subst (λ j. Derives w (table j) r) e d) (subst (λ j. is_where (Node j w) ≡ false) e h)
-
--- a constant: no where clause stands behind its value
-const_alone : (x : Tree) (r : List Token) → Derives x (table AConst) r → is_where (the the_where x) ≡ false
-    → has_lone_value x ≡ true
-unfolding table same_part
-const_alone (Pair c (Pair n (Pair g (Pair s (Pair t (Pair (First v) (Pair (Called m (Node k w)) e))))))) r d h =
-    let f = d.1.1.1.1.1 in
-    let i : found the_where (Pair c (Pair n (Pair g (Pair s (Pair t (Pair (First v) (Pair (Called m (Node k w)) e)))))))
-    ≡ Some (Node k w) =
-    behind_six the_where c n g s t (First v) (Pair (Called m (Node k w)) e) (Some (Node k w))
-    (no_part the_where c _ _ d.0 refl) (no_part the_where n _ _ d.1.0 refl) (no_part the_where g _ _ d.1.1.0 refl)
-    (no_part the_where s _ _ d.1.1.1.0 refl) (no_part the_where t _ _ d.1.1.1.1.0 refl)
-    (no_part the_where v _ _ f.0.1 refl)
-    (part_in_front the_where (Called m (Node k w)) e (Node k w)
-    (ap (λ j. cond (same_part j the_where) (Some (Node k w)) None) f.1.0.0)) in
-    let a : is_there w ≡ false =
-    where_is k w _ f.1.0.1.0 f.1.0.1.1 (sym (ap (λ o. is_where (or_nil o)) i) ∙ h) in
-    subst (λ j. has_lone_value (Pair c (Pair n (Pair g (Pair s (Pair t (Pair (First v) (Pair (Called m
-    (Node j w)) e)))))))
-    ≡ true) (sym f.1.0.1.0) (ap not a)
-const_alone _ r d h = refl
-
--- a type that is not no path
-path_told : (b : Bool) → not b ≡ false → b ≡ true
-path_told true h = refl
-path_told false h = cc h
-
--- where a type stands behind for, the one before it is a path
-trait_told : (x t z : Tree) → found the_first x ≡ Some t → found the_self x ≡ Some z
-    → (has the_self x && not (is_path_type (the the_first x))) ≡ false → is_path_type t ≡ true
-trait_told x t z e f h =
-    path_told (is_path_type t) (sym (ap (λ o. is_some o && not (is_path_type (the the_first x))) f
-    ∙ ap (λ o. not (is_path_type (or_nil o))) e) ∙ h)
-
--- an impl: what it implements is a path
-impl_alone : (x : Tree) (r : List Token) → Derives x (table AnImpl) r
-    → (has the_self x && not (is_path_type (the the_first x))) ≡ false → has_own_trait x ≡ true
-unfolding table same_part
-impl_alone (First (Pair a (Pair c (Pair u (Pair i (Pair g (Pair p (Pair (Called m t)
-    (Pair (First (Pair b (Called n z))) y))))))))) r d h =
-    let e = d.1.1.1.1.1.1.1 in
-    trait_told (Pair a (Pair c (Pair u (Pair i (Pair g (Pair p (Pair (Called m t)
-    (Pair (First (Pair b (Called n z))) y)))))))) t z
-    (behind_six the_first a c u i g p (Pair (Called m t) (Pair (First (Pair b (Called n z))) y)) (Some t)
-    (no_part the_first a _ _ d.1.0 refl) (no_part the_first c _ _ d.1.1.0 refl)
-    (no_part the_first u _ _ d.1.1.1.0 refl) (no_part the_first i _ _ d.1.1.1.1.0 refl)
-    (no_part the_first g _ _ d.1.1.1.1.1.0 refl) (no_part the_first p _ _ d.1.1.1.1.1.1.0 refl)
-    (part_in_front the_first (Called m t) (Pair (First (Pair b (Called n z))) y) t
-    (ap (λ j. cond (same_part j the_first) (Some t) None) e.0.0)))
-    (behind_six the_self a c u i g p (Pair (Called m t) (Pair (First (Pair b (Called n z))) y)) (Some z)
-    (no_part the_self a _ _ d.1.0 refl) (no_part the_self c _ _ d.1.1.0 refl)
-    (no_part the_self u _ _ d.1.1.1.0 refl) (no_part the_self i _ _ d.1.1.1.1.0 refl)
-    (no_part the_self g _ _ d.1.1.1.1.1.0 refl) (no_part the_self p _ _ d.1.1.1.1.1.1.0 refl)
-    (part_behind the_self (Called m t) (Pair (First (Pair b (Called n z))) y) (Some z)
-    (ap (λ j. cond (same_part j the_self) (Some t) None) e.0.0)
-    (part_in_front the_self (First (Pair b (Called n z))) y z
-    (part_behind the_self b (Called n z) (Some z) (no_part the_self b _ _ e.1.0.1.0 refl)
-    (ap (λ j. cond (same_part j the_self) (Some z) None) e.1.0.1.1.0))))) h
-impl_alone (First (Pair a (Pair c (Pair u (Pair i (Pair g (Pair p (Pair (Called m t)
-    (Pair (First (Pair b _)) y))))))))) r d h = absurd d.1.1.1.1.1.1.1.1.0.1.1
-impl_alone (First (Pair a (Pair c (Pair u (Pair i (Pair g (Pair p (Pair (Called m t)
-    (Pair (First _) y))))))))) r d h = absurd d.1.1.1.1.1.1.1.1.0.1
-impl_alone _ r d h = refl
+-- both do not, where the second does not
+not_both : (a b : Bool) → b ≡ false → not (a && b) ≡ true
+not_both true b e = ap not e
+not_both false b e = refl
 
 -- a constant that is not raw has no where clause
 clear_where : (b : Bool) (x : Tree) → const_is_raw b x ≡ false → is_where (the the_where x) ≡ false
@@ -253,14 +141,15 @@ clear_where b x h =
     (second_none (b && not (has the_value x)) (is_generic (the the_generics x) || is_where (the the_where x)) h)
 
 -- a constant that stands in that place, and is kept there
-const_settled : (p : Place) (v : Bool) (x : Tree) (r : List Token) → Derives x (table AConst) r
-    → form_in p v (Node AConst x) ≡ Keep → has_lone_value x ≡ true
-const_settled InFile v x r d e = const_alone x r d (clear_where true x (raw_none (const_is_raw true x) e))
-const_settled InTrait v x r d e =
-    const_alone x r d (clear_where false x (second_none v (const_is_raw false x)
-    (raw_none (v || const_is_raw false x) e)))
-const_settled InImpl v x r d e = const_alone x r d (clear_where true x (raw_none (const_is_raw true x) e))
-const_settled InForeign v x r d e = cc e
+const_alone : (b : Bool) (x : Tree) → const_is_raw b x ≡ false → has_lone_value x ≡ true
+const_alone b x h = not_both (has the_value x) (is_where (the the_where x)) (clear_where b x h)
+
+const_settled : (p : Place) (v : Bool) (x : Tree) → form_in p v (Node AConst x) ≡ Keep → has_lone_value x ≡ true
+const_settled InFile v x e = const_alone true x (raw_none (const_is_raw true x) e)
+const_settled InTrait v x e =
+    const_alone false x (second_none v (const_is_raw false x) (raw_none (v || const_is_raw false x) e))
+const_settled InImpl v x e = const_alone true x (raw_none (const_is_raw true x) e)
+const_settled InForeign v x e = cc e
 
 -- in a trait stands no impl, and a statement is no item
 abbrev stands_in : Place → Kind → Bool
@@ -270,21 +159,23 @@ stands_in InTrait AnImpl = false
 stands_in p k = true
 
 -- an impl that does
-impl_settled : (p : Place) (v : Bool) (x : Tree) (r : List Token) → Derives x (table AnImpl) r
-    → stands_in p AnImpl ≡ true → form_in p v (Node AnImpl x) ≡ Keep → has_own_trait x ≡ true
-impl_settled InFile v x r d h e = impl_alone x r d (second_none _ _ (raw_none _ (refused_none _ _ e)))
-impl_settled InTrait v x r d h e = absurd (false≢true h)
-impl_settled InImpl v x r d h e = cc e
-impl_settled InForeign v x r d h e = cc e
+impl_settled : (p : Place) (v : Bool) (x : Tree) → stands_in p AnImpl ≡ true → form_in p v (Node AnImpl x) ≡ Keep
+    → has_own_trait x ≡ true
+impl_settled InFile v x h e =
+    ap not (second_none (has the_const x) (has the_self x && not (is_path_type (the the_first x)))
+    (raw_none (impl_is_raw x) (refused_none _ _ e)))
+impl_settled InTrait v x h e = absurd (false≢true h)
+impl_settled InImpl v x h e = cc e
+impl_settled InForeign v x h e = cc e
 
 -- any kind that does
-node_settled : (p : Place) (v : Bool) (k : Kind) (x : Tree) (r : List Token) → Derives x (table k) r
-    → stands_in p k ≡ true → form_in p v (Node k x) ≡ Keep → are_settled (Node k x) ≡ true
-node_settled p v AConst x r d h e = const_settled p v x r d e
-node_settled p v AnImpl x r d h e = impl_settled p v x r d h e
-node_settled p v AStatement x r d h e = absurd (false≢true h)
-node_settled p v OneStatement x r d h e = absurd (false≢true h)
-node_settled p v _ x r d h e = refl
+node_settled : (p : Place) (v : Bool) (k : Kind) (x : Tree) → stands_in p k ≡ true → form_in p v (Node k x) ≡ Keep
+    → are_settled (Node k x) ≡ true
+node_settled p v AConst x h e = const_settled p v x e
+node_settled p v AnImpl x h e = impl_settled p v x h e
+node_settled p v AStatement x h e = absurd (false≢true h)
+node_settled p v OneStatement x h e = absurd (false≢true h)
+node_settled p v _ x h e = refl
 
 -- the alternatives of an item, each of which may stand in that place
 abbrev is_choice : Place → Gram → Bool
@@ -301,7 +192,7 @@ chosen_settled p v (First x) (alt t a b) r d h e =
 chosen_settled p v (Second x) (alt t a b) r d h e =
     chosen_settled p v x b r d.1 (both_true (is_choice p a) (is_choice p b) h).1 e
 chosen_settled p v _ (alt t a b) r d h e = absurd d
-chosen_settled p v (Node k x) (ref l) r d h e = node_settled p v k x r d.1 (ap (stands_in p) d.0 ∙ h) e
+chosen_settled p v (Node k x) (ref l) r d h e = node_settled p v k x (ap (stands_in p) d.0 ∙ h) e
 chosen_settled p v _ (ref l) r d h e = absurd d
 chosen_settled p v _ none r d h e = absurd d
 chosen_settled p v x _ r d h e = absurd (false≢true h)

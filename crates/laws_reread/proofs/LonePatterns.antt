@@ -13,10 +13,12 @@ use Rattle.syn_grammar.specs.Gram.{ref}
 use Rattle.syn_grammar.specs.Look.{Look, ◌or◌, no, seen, sees, behind, first_seen}
 use Rattle.syn_grammar.specs.Say.{at, brace, marks, parenthesis}
 use Rattle.syn_grammar.specs.Patterns.{binding}
+use Rattle.syn_grammar.specs.Tidy.{is_lone_path, is_lone_segment}
 use Rattle.syn_grammar.specs.Table.{table}
 use Rattle.syn_grammar.specs.Derives.{Derives}
 use Rattle.laws_reread_expressions.proofs.Bools.{or_parts}
-use Rattle.laws_reread_kinds.specs.Covered.{is_lone, lone_any, lone_names, lone_path, lone_pattern}
+use Rattle.laws_reread_kinds.specs.Covered.{is_lone, lone_pattern}
+use Rattle.laws_reread_kinds.proofs.Alternatives.{is_lone_plain}
 use Rattle.laws_reread_kinds.proofs.Choices.{both_true}
 
 -- a name alone, before such a rest
@@ -26,27 +28,31 @@ record Name (x : Tree) (r : List Token) : Type 0 where
   passes : is_ident text ≡ true
   ends : sees (marks "::") r ≡ false
 
-names_read : (z : Tree) (r : List Token) → Derives z (table (Segments InExpression)) r → lone_names z ≡ true
-    → Name z r
+names_read : (z : Tree) (r : List Token) → Derives z (table (Segments InExpression)) r
+    → is_lone_segment (Node (Segments InExpression) z) ≡ true → Name z r
 unfolding table
 names_read (Second (Pair (AWord cs) (Second (Second (Second Nil))))) r d e =
     record { text = cs; is = refl; passes = e; ends = d.1.1.1.0 }
 names_read (Second (Pair (AWord cs) (Second (Second (Second _))))) r d e = absurd d.1.1.1.1.1
 names_read _ r d e = absurd (false≢true e)
 
-path_read : (x : Tree) (r : List Token) → Derives x (table (Path InExpression)) r → lone_path x ≡ true → Name x r
+path_read : (x : Tree) (r : List Token) → Derives x (table (Path InExpression)) r
+    → is_lone_plain (Node (Path InExpression) x) ≡ true → Name x r
 unfolding table
 path_read (Pair (Second Nil) (Node k z)) r d e =
-    let n = names_read z r (subst (λ l. Derives z (table l) r) d.1.0 d.1.1) e in
+    let n = names_read z r (subst (λ l. Derives z (table l) r) d.1.0 d.1.1)
+    (subst (λ l. is_lone_segment (Node l z) ≡ true) d.1.0 e) in
     record { text = n.text; is = n.is; passes = n.passes; ends = n.ends }
 path_read (Pair (Second Nil) _) r d e = absurd d.1
 path_read (Pair (Second _) y) r d e = absurd d.0.1
 path_read _ r d e = absurd (false≢true e)
 
-any_read : (x : Tree) (r : List Token) → Derives x (table (AnyPath InExpression)) r → lone_any x ≡ true → Name x r
+any_read : (x : Tree) (r : List Token) → Derives x (table (AnyPath InExpression)) r
+    → is_lone_path (Node (AnyPath InExpression) x) ≡ true → Name x r
 unfolding table
 any_read (Second (Node k x)) r d e =
-    let n = path_read x r (subst (λ l. Derives x (table l) r) d.1.0 d.1.1) e in
+    let n = path_read x r (subst (λ l. Derives x (table l) r) d.1.0 d.1.1)
+    (subst (λ l. is_lone_plain (Node l x) ≡ true) d.1.0 e) in
     record { text = n.text; is = n.is; passes = n.passes; ends = n.ends }
 any_read (Second _) r d e = absurd d.1
 any_read _ r d e = absurd (false≢true e)
@@ -81,11 +87,12 @@ pattern_read : (y : Tree) (r : List Token) → Derives y (table PathPattern) r �
     → sees name_stands (flat y ++ r) ≡ false → sees (marks "..") r ≡ true
 unfolding table
 pattern_read (Pair (Node k x) (Second (Second (Second Nil)))) r d e t =
-    let n = any_read x r (subst (λ l. Derives x (table l) r) d.0.0 d.0.1) (both_true (lone_any x) true e).0 in
+    let n = any_read x r (subst (λ l. Derives x (table l) r) d.0.0 d.0.1)
+    (subst (λ l. is_lone_path (Node l x) ≡ true) d.0.0 (both_true (is_lone_path (Node k x)) true e).0) in
     dots_behind n.text r n.passes (subst (λ us. sees name_stands ((us ++ []) ++ r) ≡ false) n.is t)
     n.ends d.1.0 d.1.1.0
 pattern_read (Pair (Node k x) (Second (Second (Second _)))) r d e t = absurd d.1.1.1.1
-pattern_read (Pair (Node k x) _) r d e t = absurd (false≢true (both_true (lone_any x) false e).1)
+pattern_read (Pair (Node k x) _) r d e t = absurd (false≢true (both_true (is_lone_path (Node k x)) false e).1)
 pattern_read (Pair _ y) r d e t = absurd d.0
 pattern_read _ r d e t = absurd d
 

@@ -24,12 +24,12 @@ use Rattle.syn_grammar.specs.Kept.{forget, held, kept}
 use Rattle.syn_grammar.specs.Normal.{passed, place_of, normal}
 use Rattle.laws_reread_kinds.specs.After.{behind}
 use Rattle.laws_reread_kinds.specs.Covered.{front, item_of}
+use Rattle.laws_reread_kinds.proofs.CalledParts.{lacks_part}
 use Rattle.laws_reread_kinds.proofs.Classes.{Class, the_words}
 use Rattle.laws_reread_kinds.proofs.Conditions.{is_condition_kind}
 use Rattle.laws_reread_kinds.proofs.Fine.{Any, Fine, fine_raw_or, fine_weaker}
 use Rattle.laws_reread_kinds.proofs.Fits.{Fits, back}
 use Rattle.laws_reread_kinds.proofs.ForeignItems.{foreign_alias, foreign_function, foreign_static, safety_words}
-use Rattle.laws_reread_kinds.proofs.Impls.{lacks_part}
 use Rattle.laws_reread_kinds.proofs.ItemPlaces.{has_none}
 use Rattle.laws_reread_kinds.proofs.ItemVerdicts.{EachOf, LawOf, SameItem, form_same, law_alias, law_block}
 use Rattle.laws_reread_kinds.proofs.ItemVerdicts.{law_constant}

@@ -29,13 +29,12 @@ use Rattle.syn_grammar.specs.Table.{table}
 use Rattle.syn_grammar.specs.Derives.{Derives}
 use Rattle.syn_grammar.specs.Kept.{is_there}
 use Rattle.laws_reread_kinds.specs.Covered.{is_begun, is_macro_item, is_named_macro, is_no_macro, is_statement_item}
+use Rattle.laws_reread_kinds.proofs.CalledParts.{lacks_part, no_part}
 use Rattle.laws_reread_kinds.proofs.Choices.{both_same, both_true}
 use Rattle.laws_reread_kinds.proofs.ItemPlaces.{word_front}
 use Rattle.laws_reread_kinds.proofs.Passed.{behind_attributes}
 use Rattle.laws_reread_kinds.proofs.Seconds.{either_seen, front_seen}
 use Rattle.laws_reread_kinds.proofs.WholeItems.{whole_item}
-use Rattle.laws_reread_kinds.proofs.Impls.{lacks_part}
-use Rattle.laws_reread.proofs.Judged.{no_part}
 use Rattle.laws_reread.proofs.Paths.{one_more}
 use Rattle.laws_reread.proofs.ToldParts.{of_whole, public_none}
 use Rattle.laws_reread.proofs.ToldPaths.{call_behind}

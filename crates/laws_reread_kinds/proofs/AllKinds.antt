@@ -40,7 +40,8 @@ use Rattle.laws_reread_kinds.proofs.KindLaws.{law_arguments, law_an_argument, la
 use Rattle.laws_reread_kinds.proofs.KindLaws.{law_dyn_alone, law_impl, law_impl_alone, law_some_bounds, law_pattern}
 use Rattle.laws_reread_kinds.proofs.KindLaws.{law_several, law_outer, law_inner, law_meta, law_generics}
 use Rattle.laws_reread_kinds.proofs.KindLaws.{law_generic_params, law_lifetime_colon, law_bounds_colon, law_where}
-use Rattle.laws_reread_kinds.proofs.KindLaws.{law_unnamed_field, law_variant, law_const, law_trait_type, law_impl_type}
+use Rattle.laws_reread_kinds.proofs.KindLaws.{law_unnamed_field, law_variant, law_trait_type, law_impl_type}
+use Rattle.laws_reread_kinds.proofs.ItemVerdicts.{law_const}
 use Rattle.laws_reread_kinds.proofs.Alternatives.{law_one_pattern}
 use Rattle.laws_reread_kinds.proofs.References.{law_reference_pattern}
 use Rattle.laws_reread_kinds.proofs.Elements.{law_field_patterns, law_parameters, law_fn_arg, law_trait}

@@ -9,7 +9,7 @@ use Rattle.rust_leaf.specs.declared.punct.Spacing.TheVariants.{Joint}
 use Rattle.syn_grammar.specs.Kind.{Kind, Position, Plain, AnyPath, FieldPatterns, IdentPattern, InExpression}
 use Rattle.syn_grammar.specs.Kind.{LiteralPattern, OnePattern, Path, PathPattern}
 use Rattle.syn_grammar.specs.Kind.{RangeEnd, RangeToPattern, ReferencePattern, RestPattern, Segments, SlicePattern}
-use Rattle.syn_grammar.specs.Kind.{Pattern, TuplePattern, WildPattern}
+use Rattle.syn_grammar.specs.Kind.{AtType, Pattern, Style, TuplePattern, WildPattern}
 use Rattle.syn_grammar.specs.Words.{any_text, is_bool, is_ident, is_path_keyword, is_plain_name}
 use Rattle.rust_leaf.specs.Keywords.{is_reserved}
 use Rattle.rust_leaf.specs.Keywords.{same_text}
@@ -24,7 +24,7 @@ use Rattle.syn_grammar.specs.Paths.{arguments_stand}
 use Rattle.syn_grammar.specs.Table.{table}
 use Rattle.syn_grammar.specs.Derives.{Derives}
 use Rattle.syn_grammar.specs.Kept.{forget, held, kept}
-use Rattle.syn_grammar.specs.Tidy.{tidy}
+use Rattle.syn_grammar.specs.Tidy.{is_lone_path, is_lone_segment, tidy}
 use Rattle.syn_grammar.specs.Normal.{passed, place_of, normal_in}
 use Rattle.laws_reread_kinds.proofs.Choices.{both_same, first_of, is_false, none_of, other_word, second_seen}
 use Rattle.laws_reread_kinds.proofs.Printed.{KindLaw, IsPlaced, Printed, simple_law}
@@ -39,8 +39,7 @@ use Rattle.laws_reread_kinds.proofs.Classes.{AnyWord, Class, Opening, Quoted, Si
 use Rattle.laws_reread_kinds.proofs.Classes.{among_right, of_all}
 use Rattle.laws_reread_kinds.proofs.Classes.{the_words}
 use Rattle.laws_reread_kinds.proofs.Fits.{Fits, IsMeant}
-use Rattle.laws_reread_kinds.specs.Covered.{has_step, inner, is_lone, lone_any, lone_names, lone_path, lone_pattern}
-use Rattle.laws_reread_kinds.specs.Covered.{lone_rest}
+use Rattle.laws_reread_kinds.specs.Covered.{has_step, inner, is_lone, lone_pattern, lone_rest}
 use Rattle.laws_reread_kinds.proofs.Fine.{At, Fine, Without, fine_alt, words_are}
 use Rattle.laws_reread_kinds.proofs.Parts.{Found, found_alt, found_ref, meant_step, told_at, weaken}
 use Rattle.laws_reread_kinds.proofs.Sights.{ident_not}
@@ -148,7 +147,8 @@ colons_on : (ts : List Token) → sees (marks "::") ts ≡ true → sees goes_on
 colons_on ts e = first_of ((marks "::") ts) ((parenthesis or brace or marks "..") ts) e
 
 names_bound : (y : Tree) (us : List Token) → Derives y (table (Segments InExpression)) us
-    → (lone_names y ≡ true → sees goes_on us ≡ true) → Lacks bound_stands (flat y ++ us)
+    → (is_lone_segment (Node (Segments InExpression) y) ≡ true → sees goes_on us ≡ true)
+    → Lacks bound_stands (flat y ++ us)
 unfolding table
 names_bound (First (Pair (AWord cs) m)) us d h = keyword_bound cs (flat m ++ us) d.1.0
 names_bound (First (Pair _ m)) us d h = absurd d.1.0
@@ -168,24 +168,32 @@ names_bound (Second (Pair _ y)) us d h = absurd d.1.0
 names_bound (Second _) us d h = absurd d.1
 names_bound _ us d h = absurd d
 
+-- of what is behind the choice between two kinds of paths
+abbrev pub is_lone_plain : Tree → Bool
+is_lone_plain x = is_lone_path (Node (AnyPath InExpression) (Second x))
+
 path_bound : (y : Tree) (us : List Token) → Derives y (table (Path InExpression)) us
-    → (lone_path y ≡ true → sees goes_on us ≡ true) → Lacks bound_stands (flat y ++ us)
+    → (is_lone_plain (Node (Path InExpression) y) ≡ true → sees goes_on us ≡ true) → Lacks bound_stands (flat y ++ us)
 unfolding table
 path_bound (Pair (First m) y) us d h =
     subst (Lacks bound_stands) (sym (append_assoc (flat m) (flat y) us))
     (no_word (flat m ++ (flat y ++ us)) (λ p. mark_is_none p 58 (58 ∷ []) (flat m ++ (flat y ++ us)) d.0.0))
 path_bound (Pair (Second Nil) (Node k y)) us d h =
-    names_bound y us (subst (λ j. Derives y (table j) us) d.1.0 d.1.1) h
+    names_bound y us (subst (λ j. Derives y (table j) us) d.1.0 d.1.1)
+    (subst (λ j. is_lone_segment (Node j y) ≡ true → sees goes_on us ≡ true) d.1.0 h)
 path_bound (Pair (Second Nil) _) us d h = absurd d.1
 path_bound (Pair (Second _) y) us d h = absurd d.0.1
 path_bound (Pair _ y) us d h = absurd d.0
 path_bound _ us d h = absurd d
 
 any_bound : (y : Tree) (us : List Token) → Derives y (table (AnyPath InExpression)) us
-    → (lone_any y ≡ true → sees goes_on us ≡ true) → Lacks bound_stands (flat y ++ us)
+    → (is_lone_path (Node (AnyPath InExpression) y) ≡ true → sees goes_on us ≡ true)
+    → Lacks bound_stands (flat y ++ us)
 unfolding table
 any_bound (First x) us d h = no_word (flat x ++ us) (λ p. mark_is_none p 60 [] (flat x ++ us) d.0)
-any_bound (Second (Node k y)) us d h = path_bound y us (subst (λ j. Derives y (table j) us) d.1.0 d.1.1) h
+any_bound (Second (Node k y)) us d h =
+    path_bound y us (subst (λ j. Derives y (table j) us) d.1.0 d.1.1)
+    (subst (λ j. is_lone_plain (Node j y) ≡ true → sees goes_on us ≡ true) d.1.0 h)
 any_bound (Second _) us d h = absurd d.1
 any_bound _ us d h = absurd d
 
@@ -224,7 +232,8 @@ unfolding table
 pattern_bound (Pair (Node k p) e) s d n =
     subst (Lacks bound_stands) (sym (append_assoc (flat p) (flat e) s))
     (any_bound p (flat e ++ s) (subst (λ j. Derives p (table j) (flat e ++ s)) d.0.0 d.0.1)
-    (λ l. rest_on e s d.1 (both_lone (lone_any p) (lone_rest e) n l)))
+    (λ l. rest_on e s d.1 (both_lone (is_lone_path (Node (AnyPath InExpression) p)) (lone_rest e)
+    (subst (λ j. (is_lone_path (Node j p) && lone_rest e) ≡ false) d.0.0 n) l)))
 pattern_bound (Pair _ e) s d n = absurd d.0
 pattern_bound _ s d n = absurd d
 
@@ -559,7 +568,24 @@ module _ (l : Kind) (as_read : (y : Tree) → forget l y ≡ y) (as_held : (y : 
       ∙ h y r (subst (λ j. Derives y (table j) r) d.0 d.1)
   under_read h _ r d = absurd d
 
-names_fits : (y : Tree) → Fits y (table (Segments InExpression)) → lone_names (kept y) ≡ lone_names y
+-- Of nodes of a kind: what is said of them is the same of what is kept, and of that in normal form.
+module _ (l : Kind) (says : Tree → Bool) where
+  node_fits : ((y : Tree) → Fits y (table l) → says (kept (Node l y)) ≡ says (Node l y)) → (w : Tree) → Fits w (ref l)
+      → says (kept w) ≡ says w
+  node_fits h (Node k y) f =
+      subst (λ j. says (kept (Node j y)) ≡ says (Node j y)) (sym f.0) (h y (subst (λ j. Fits y (table j)) f.0 f.3))
+  node_fits h _ f = absurd f
+
+  node_read : ((y : Tree) (r : List Token) → Derives y (table l) r
+      → says (normal_in Plain (kept (Node l y))) ≡ says (Node l y)) → (x : Tree) (r : List Token) → Derives x (ref l) r
+      → says (normal_in Plain (kept x)) ≡ says x
+  node_read h (Node k y) r d =
+      subst (λ j. says (normal_in Plain (kept (Node j y))) ≡ says (Node j y)) (sym d.0)
+      (h y r (subst (λ j. Derives y (table j) r) d.0 d.1))
+  node_read h _ r d = absurd d
+
+names_fits : (y : Tree) → Fits y (table (Segments InExpression))
+    → is_lone_segment (kept (Node (Segments InExpression) y)) ≡ is_lone_segment (Node (Segments InExpression) y)
 unfolding table held passed
 names_fits (First x) f = refl
 names_fits (Second (Pair (AWord cs) (First x))) f = refl
@@ -573,8 +599,9 @@ names_fits (Second (Pair _ y)) f = absurd f.1.0
 names_fits (Second _) f = absurd f.1
 names_fits _ f = absurd f
 
-names_read : (y : Tree) (r : List Token) → Derives y (table (Segments InExpression)) r → lone_names
-    (normal_in Plain (kept y)) ≡ lone_names y
+names_read : (y : Tree) (r : List Token) → Derives y (table (Segments InExpression)) r
+    → is_lone_segment (normal_in Plain (kept (Node (Segments InExpression) y)))
+    ≡ is_lone_segment (Node (Segments InExpression) y)
 unfolding table held passed
 names_read (First x) r d = refl
 names_read (Second (Pair (AWord cs) (First x))) r d = refl
@@ -588,34 +615,41 @@ names_read (Second (Pair _ y)) r d = absurd d.1.0
 names_read (Second _) r d = absurd d.1
 names_read _ r d = absurd d
 
-path_fits : (y : Tree) → Fits y (table (Path InExpression)) → lone_path (kept y) ≡ lone_path y
+path_fits : (y : Tree) → Fits y (table (Path InExpression))
+    → is_lone_plain (kept (Node (Path InExpression) y)) ≡ is_lone_plain (Node (Path InExpression) y)
 unfolding table held passed
 path_fits (Pair (First m) y) f = refl
-path_fits (Pair (Second z) y) f = under_fits (Segments InExpression) (λ z. refl) (λ z. refl) refl lone_names
-    names_fits y f.1
+path_fits (Pair (Second z) y) f = node_fits (Segments InExpression) is_lone_segment names_fits y f.1
 path_fits (Pair _ y) f = absurd f.0
 path_fits _ f = absurd f
 
-path_read : (y : Tree) (r : List Token) → Derives y (table (Path InExpression)) r → lone_path
-    (normal_in Plain (kept y)) ≡ lone_path y
+path_read : (y : Tree) (r : List Token) → Derives y (table (Path InExpression)) r
+    → is_lone_plain (normal_in Plain (kept (Node (Path InExpression) y))) ≡ is_lone_plain (Node (Path InExpression) y)
 unfolding table held passed
 path_read (Pair (First m) y) r d = refl
-path_read (Pair (Second z) y) r d = under_read (Segments InExpression) (λ z. refl) (λ z. refl) refl lone_names
-    names_read y r d.1
+path_read (Pair (Second z) y) r d = node_read (Segments InExpression) is_lone_segment names_read y r d.1
 path_read (Pair _ y) r d = absurd d.0
 path_read _ r d = absurd d
 
-any_fits : (y : Tree) → Fits y (table (AnyPath InExpression)) → lone_any (kept y) ≡ lone_any y
+-- in whichever style
+any_style : (a : Style) (x : Tree) → is_lone_path (Node (AnyPath a) (Second x)) ≡ is_lone_plain x
+any_style a (Node (Path b) (Pair (Second z) y)) = refl
+any_style a _ = refl
+
+any_fits : (y : Tree) → Fits y (table (AnyPath InExpression))
+    → is_lone_path (kept (Node (AnyPath InExpression) y)) ≡ is_lone_path (Node (AnyPath InExpression) y)
 unfolding table held passed
 any_fits (First x) f = refl
-any_fits (Second y) f = under_fits (Path InExpression) (λ z. refl) (λ z. refl) refl lone_path path_fits y f.1
+any_fits (Second y) f = any_style AtType (kept y) ∙ node_fits (Path InExpression) is_lone_plain path_fits y f.1
 any_fits _ f = absurd f
 
-any_read : (y : Tree) (r : List Token) → Derives y (table (AnyPath InExpression)) r → lone_any
-    (normal_in Plain (kept y)) ≡ lone_any y
+any_read : (y : Tree) (r : List Token) → Derives y (table (AnyPath InExpression)) r
+    → is_lone_path (normal_in Plain (kept (Node (AnyPath InExpression) y)))
+    ≡ is_lone_path (Node (AnyPath InExpression) y)
 unfolding table held passed
 any_read (First x) r d = refl
-any_read (Second y) r d = under_read (Path InExpression) (λ z. refl) (λ z. refl) refl lone_path path_read y r d.1
+any_read (Second y) r d =
+    any_style AtType (normal_in Plain (kept y)) ∙ node_read (Path InExpression) is_lone_plain path_read y r d.1
 any_read _ r d = absurd d
 
 rest_fits : (e : Tree) → Fits e path_rest → lone_rest (kept e) ≡ lone_rest e
@@ -639,18 +673,16 @@ rest_read _ r d = absurd d
 pattern_fits : (y : Tree) → Fits y (table PathPattern) → lone_pattern (kept y) ≡ lone_pattern y
 unfolding table held passed
 pattern_fits (Pair p e) f =
-    both_same (lone_any (inner (kept p))) (lone_rest (kept e)) (lone_any (inner p)) (lone_rest e)
-    (under_fits (AnyPath InExpression) (λ z. refl) (λ z. refl) refl lone_any any_fits p f.0) (rest_fits e f.1)
+    both_same (is_lone_path (kept p)) (lone_rest (kept e)) (is_lone_path p) (lone_rest e)
+    (node_fits (AnyPath InExpression) is_lone_path any_fits p f.0) (rest_fits e f.1)
 pattern_fits _ f = absurd f
 
 pattern_read : (y : Tree) (r : List Token) → Derives y (table PathPattern) r → lone_pattern
     (normal_in Plain (kept y)) ≡ lone_pattern y
 unfolding table held passed
 pattern_read (Pair p e) r d =
-    both_same (lone_any (inner (normal_in Plain (kept p)))) (lone_rest (normal_in Plain (kept e))) (lone_any (inner p))
-    (lone_rest e)
-    (under_read (AnyPath InExpression) (λ z. refl) (λ z. refl) refl lone_any any_read p (flat e ++ r) d.0)
-    (rest_read e r d.1)
+    both_same (is_lone_path (normal_in Plain (kept p))) (lone_rest (normal_in Plain (kept e))) (is_lone_path p)
+    (lone_rest e) (node_read (AnyPath InExpression) is_lone_path any_read p (flat e ++ r) d.0) (rest_read e r d.1)
 pattern_read _ r d = absurd d
 
 lone_fits : (x : Tree) (g : Gram) → Fits x g → is_lone (choice (kept x)) ≡ is_lone (choice x)

@@ -29,6 +29,7 @@ use Rattle.syn_grammar.specs.Normal.{passed, place_of, normal_in}
 use Rattle.laws_reread_kinds.specs.After.{After, behind, is_any_path, is_generic}
 use Rattle.laws_reread_kinds.specs.Covered.{has_own_trait, has_step}
 use Rattle.laws_reread_kinds.specs.Sees.{Lacks, LacksAll}
+use Rattle.laws_reread_kinds.proofs.CalledParts.{lacks_part, no_part, past_read}
 use Rattle.laws_reread_kinds.proofs.Choices.{both_true, is_false, or_same}
 use Rattle.laws_reread_kinds.proofs.Classes.{Class, IsAmong, Opening, TheWord, ◌&◌}
 use Rattle.laws_reread_kinds.proofs.Starts.{starts}
@@ -329,15 +330,7 @@ step_an_impl =
     (λ x s c. c.1)
     (λ x s i c. i))
 
--- What was read: an entry has no part of a name that it doesn't call.
-abbrev pub lacks_part : Part → Gram → Bool
-lacks_part n (seq a b) = lacks_part n a && lacks_part n b
-lacks_part n (alt t a b) = lacks_part n a && lacks_part n b
-lacks_part n (group d g) = lacks_part n g
-lacks_part n (judged v g) = lacks_part n g
-lacks_part n (called m g) = not (same_part m n)
-lacks_part n _ = true
-
+-- of what was read, in normal form: no part of a name that its entry doesn't call
 pub none_found : (n : Part) (x : Tree) (g : Gram) (r : List Token) → Derives x g r → lacks_part n g ≡ true
     → found n (normal_in Plain (kept x)) ≡ None
 none_found n (Called m x) (called l g) r d e =
@@ -593,6 +586,37 @@ free_of : (x : Tree) (g : Gram) (r : List Token) → Derives x g r → lacks_par
 free_of x g r d a b c =
     (none_found the_polarity x g r d a, none_found the_self x g r d b, none_found the_first x g r d c)
 
+-- what was read before for is a path
+twice_not : (b : Bool) → not (not b) ≡ true → b ≡ true
+twice_not true e = refl
+twice_not false e = e
+
+trait_told : (x t z : Tree) → found the_first x ≡ Some t → found the_self x ≡ Some z → has_own_trait x ≡ true
+    → is_path_type t ≡ true
+trait_told x t z e f h =
+    twice_not (is_path_type t) (sym (ap (λ o. not (is_some o && not (is_path_type (the the_first x)))) f
+    ∙ ap (λ o. not (not (is_path_type (or_nil o)))) e) ∙ h)
+
+trait_read : (d c u i g p t f y : Tree) (m : Part) (r : List Token)
+    → Derives (Pair d (Pair c (Pair u (Pair i (Pair g (Pair p (Pair (Called m t) (Pair f y)))))))) impl_form r
+    → has_own_trait (Pair d (Pair c (Pair u (Pair i (Pair g (Pair p (Pair (Called m t) (Pair f y)))))))) ≡ true
+    → (not (is_there f) || is_path_type t) ≡ true
+unfolding same_part
+trait_read d c u i g p t (First (Pair w (Called n z))) y m r h e =
+    let f : Tree = First (Pair w (Called n z)) in
+    let x : Tree = Pair d (Pair c (Pair u (Pair i (Pair g (Pair p (Pair (Called m t) (Pair f y))))))) in
+    let k = h.1.1.1.1.1.1 in
+    trait_told x t z
+    (past_read the_first 6 x impl_form r h refl
+    ∙ ap (λ j. or_else (cond (same_part j the_first) (Some t) None) (found the_first (Pair f y))) k.0.0)
+    (past_read the_self 7 x impl_form r h refl
+    ∙ ap (λ o. or_else (or_else o (found the_self (Called n z))) (found the_self y))
+    (no_part the_self w _ _ k.1.0.1.0 refl)
+    ∙ ap (λ j. or_else (cond (same_part j the_self) (Some z) None) (found the_self y)) k.1.0.1.1.0) e
+trait_read d c u i g p t (First (Pair w _)) y m r h e = absurd h.1.1.1.1.1.1.1.0.1.1
+trait_read d c u i g p t (First _) y m r h e = absurd h.1.1.1.1.1.1.1.0.1
+trait_read d c u i g p t _ y m r h e = refl
+
 never_raw : (b : Bool) → kept_if b ≡ AsRaw → ⊥
 never_raw true e = cc
 never_raw false e = cc
@@ -612,7 +636,8 @@ impl_meant (First (Pair d (Pair c (Pair u (Pair i (Pair (Called n g) (Pair p (Pa
     (subst (λ j. IsOwnImpl (behind_impl (tidy_impl (normal_in Plain (kept (First (Pair d (Pair c (Pair u (Pair i
     (Pair (Called the_generics g) (Pair p (Pair (Called the_first t) (Pair f (Pair (Called j v) b)))))))))))))))
     (sym k.1.1.1.1.0.0)
-    (impl_own d c u i g p t f v b r e (free_of d _ _ q.0 refl refl refl) (free_of c _ _ q.1.0 refl refl refl)
+    (impl_own d c u i g p t f v b r (trait_read d c u i (Called n g) p t f (Pair (Called o v) b) m r q e)
+    (free_of d _ _ q.0 refl refl refl) (free_of c _ _ q.1.0 refl refl refl)
     (free_of u _ _ q.1.1.0 refl refl refl) (free_of i _ _ q.1.1.1.0 refl refl refl)
     (free_of b (in_braces (ref InnerAttributes ▸ ref ImplItems)) r k.1.1.1.1.1 refl refl refl) k.0.1 k.1.0 k.1.1.0.1
     (k.1.1.1.0, ((refl, k.1.1.1.1.0.1), k.1.1.1.1.1)))))

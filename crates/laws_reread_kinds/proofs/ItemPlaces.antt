@@ -20,7 +20,8 @@ use Rattle.syn_grammar.specs.Kept.{kept}
 use Rattle.syn_grammar.specs.Kind.{Plain}
 use Rattle.laws_reread_kinds.specs.Sees.{Lacks}
 use Rattle.laws_reread_kinds.proofs.Elements.{has_read}
-use Rattle.laws_reread_kinds.proofs.Impls.{contrary, core, lacks_part, none_found}
+use Rattle.laws_reread_kinds.proofs.CalledParts.{lacks_part}
+use Rattle.laws_reread_kinds.proofs.Impls.{contrary, core, none_found}
 use Rattle.laws_reread_kinds.proofs.Verdicts.{has_normal}
 use Rattle.laws_reread_kinds.proofs.Seconds.{front_seen}
 use Rattle.laws_items.proofs.Places.{kept_raw, none_then}

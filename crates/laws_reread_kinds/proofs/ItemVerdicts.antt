@@ -27,7 +27,7 @@ use Rattle.syn_grammar.specs.Tidy.{is_absent, is_bare_colon, is_bare_generics, i
 use Rattle.syn_grammar.specs.Tidy.{tidy_impl, keeps_generics}
 use Rattle.syn_grammar.specs.Tidy.{without_generics}
 use Rattle.syn_grammar.specs.Normal.{passed, place_of, normal_in}
-use Rattle.laws_reread_kinds.specs.Covered.{inner}
+use Rattle.laws_reread_kinds.specs.Covered.{has_lone_value, has_step, inner}
 use Rattle.laws_reread_kinds.proofs.Choices.{or_same}
 use Rattle.laws_reread_kinds.proofs.Elements.{has_fits, has_read}
 use Rattle.laws_reread_kinds.proofs.Fits.{Fits, is_item_form, own_place, place}
@@ -35,6 +35,7 @@ use Rattle.laws_reread_kinds.proofs.Impls.{changed_has}
 use Rattle.laws_reread_kinds.proofs.MacroItems.{plain_same}
 use Rattle.laws_reread_kinds.proofs.MacroPaths.{is_plain_macro}
 use Rattle.laws_reread_kinds.proofs.Parts.{none_never}
+use Rattle.laws_reread_kinds.proofs.Printed.{IsPlaced, KindLaw, Printed, simple_law}
 use Rattle.laws_reread_kinds.proofs.Verdicts.{has_normal}
 
 -- Of a form that is read and what is printed for it: where the one is kept, so is the other.
@@ -379,6 +380,30 @@ constant_parts y v r d f e = (
       (tt, (tt, (tt, (tt, (tt, (((tt, tt), tt), (clause_read, tt)))))))
       (tt, (tt, (tt, (tt, (tt, (((tt, tt), tt), (clause_fits, tt))))))) clause_normal d f e,
 )
+
+-- a constant without a where clause behind its value has none as it is printed
+lone_value : (a b c d : Bool) → c ≡ a → (b ≡ false → d ≡ false) → not (a && b) ≡ true → not (c && d) ≡ true
+lone_value false b c d e f h = ap (λ i. not (i && d)) e
+lone_value true false c d e f h = ap (λ i. not (i && d)) e ∙ ap not (f refl)
+lone_value true true c d e f h = cc h
+
+pub law_const : KindLaw AConst
+unfolding has_step held passed place_of table
+law_const = record { entry = λ q l. simple_law Plain (table AConst) refl; node = go }
+  where
+    go : (q : Position) → IsPlaced q AConst → (x : Tree) (r : List Token) → has_lone_value x ≡ true
+        → Derives x (table AConst) r → Printed (table AConst) (normal_in (passed AConst q) (kept x))
+        → Printed (ref AConst) (normal_in q (Node (held AConst) (kept x)))
+    go q l x r m d i =
+        let j = constant_parts x i.tree r d i.fits i.kept_is in
+        let b : has_lone_value i.tree ≡ true =
+        lone_value (has the_value x) (is_where (the the_where x)) (has the_value i.tree)
+        (is_where (the the_where i.tree)) j.0 j.2 m in
+        record {
+          tree = Node AConst i.tree;
+          fits = (refl, refl, refl, i.fits, b);
+          kept_is = ap (Node AConst) i.kept_is;
+        }
 
 pub constant_stays : (y v : Tree) (r : List Token) → Derives y (table AConst) r → Fits v (table AConst)
     → kept v ≡ normal_in Plain (kept y) → raw_if (const_is_raw true y) ≡ Keep → raw_if (const_is_raw true v) ≡ Keep

@@ -1,6 +1,6 @@
 -- What is known of the kinds whose entries have turns, whose parts are tidied, or that hold another tree than was read.
-use Rattle.std.proofs.Common.{◌≡◌, [], refl, sym, subst, List, ap, ◌∙◌, ◌++◌}
-use Rattle.std.specs.Prelude.{Bool, true, false, not, cond}
+use Rattle.std.proofs.Common.{◌≡◌, [], refl, sym, subst, List, ap, ◌∙◌}
+use Rattle.std.specs.Prelude.{true}
 use Rattle.proc_macro2.specs.Token.{Token}
 use Rattle.syn_grammar.specs.Kind.{Kind, Plain, OuterAttributes, OuterAttribute, InnerAttributes, InnerAttribute}
 use Rattle.syn_grammar.specs.Kind.{Pattern, SeveralPatterns, Generics, GenericParams, GenericParam, Where}
@@ -8,11 +8,11 @@ use Rattle.syn_grammar.specs.Kind.{WhereClause, BoundsColon, Bounds, LifetimeCol
 use Rattle.syn_grammar.specs.Kind.{AnArgument}
 use Rattle.syn_grammar.specs.Kind.{ATypeAlias, InTrait, InImpl, Meta, Variant, Visibility, Body}
 use Rattle.syn_grammar.specs.Kind.{Position, SomeBounds, DynType, ImplType, WithPlus, WithoutPlus}
-use Rattle.syn_grammar.specs.Kind.{Member, Index, Expression, AConst, UnnamedField}
-use Rattle.syn_grammar.specs.Name.{Part, same_part, the_clause, the_bounds, the_arguments, the_value}
+use Rattle.syn_grammar.specs.Kind.{Member, Index, Expression, UnnamedField}
+use Rattle.syn_grammar.specs.Name.{same_part, the_clause, the_bounds, the_arguments, the_value}
 use Rattle.syn_grammar.specs.Part.{some}
 use Rattle.syn_grammar.specs.Types.{is_path_bound}
-use Rattle.syn_grammar.specs.Tree.{Tree, Called, AWord, Nil, Pair, First, Second, Node, Whole, Back, flat}
+use Rattle.syn_grammar.specs.Tree.{Tree, Called, AWord, Pair, First, Second, Node, Whole, Back, flat}
 use Rattle.syn_grammar.specs.Gram.{Gram, seq, called, ref}
 use Rattle.syn_grammar.specs.Look.{sees}
 use Rattle.syn_grammar.specs.Say.{at, marks, sign}
@@ -25,7 +25,7 @@ use Rattle.syn_grammar.specs.Tidy.{is_bare_generics, is_bare_where, is_bare_colo
 use Rattle.syn_grammar.specs.Tidy.{is_lifetime_argument, lifetimes_first, moved}
 use Rattle.syn_grammar.specs.Parens.{may_lack}
 use Rattle.syn_grammar.specs.Normal.{passed, stands_behind, place_of, private, normal_in}
-use Rattle.laws_reread_kinds.specs.Covered.{has_step, has_lone_value, is_taken}
+use Rattle.laws_reread_kinds.specs.Covered.{has_step, is_taken}
 use Rattle.laws_reread_kinds.proofs.Parts.{none_never}
 use Rattle.laws_reread_kinds.proofs.ClearFields.{clear_fits, clear_normal, clear_read}
 use Rattle.laws_reread_kinds.proofs.FieldTypes.{has_clear_type}
@@ -366,101 +366,11 @@ law_member =
     held_law Member refl (λ x. tt) (λ q. refl) (λ q. refl) (λ x. refl) member_normal
     (simple_law Plain (table Member) refl) member_held
 
--- Of a constant with a value or a where clause.
+-- Of a choice: whether the first was chosen.
 pub there_normal : (q : Position) (w : Tree) → is_there (normal_in q w) ≡ is_there w
 there_normal q (First w) = refl
 there_normal q _ = refl
 
-there_tidy : (b : Bool) (w : Tree) → not (is_there w) ≡ true → not (is_there (cond b (Second Nil) w)) ≡ true
-there_tidy true w e = refl
-there_tidy false w e = e
-
-there_fits : (w : Tree) → Fits w (table Where) → is_there (kept w) ≡ is_there w
-unfolding table
-there_fits (First w) f = refl
-there_fits (Second w) f = refl
-there_fits _ f = absurd f
-
-there_kept : (w : Tree) (r : List Token) → Derives w (table Where) r → is_there (kept w) ≡ is_there w
-unfolding table
-there_kept (First w) r d = refl
-there_kept (Second w) r d = refl
-there_kept _ r d = absurd d
-
--- with its where clause's kind, and what that holds
-abbrev pub valued : Tree → Tree → Tree → Tree → Tree → Tree → Part → Kind → Tree → Tree → Tree
-valued c n g s t v m k w e = Pair c
-    (Pair n (Pair g (Pair s (Pair t (Pair (First v) (Pair (Called m (Node k w)) e))))))
-
-valued_kept : (c n g s t v : Tree) (m : Part) (k : Kind) (w e : Tree) → k ≡ Where →
-    (k ≡ Where → is_there (kept w) ≡ is_there w)
-    → has_lone_value (kept (valued c n g s t v m k w e)) ≡ has_lone_value (valued c n g s t v m k w e)
-unfolding held
-valued_kept c n g s t v m k w e i h =
-    subst (λ j. has_lone_value (kept (valued c n g s t v m j w e)) ≡ has_lone_value (valued c n g s t v m j w e))
-    (sym i)
-    (ap not (h i))
-
-lone_fits : (x : Tree) → Fits x (table AConst) → has_lone_value (kept x) ≡ has_lone_value x
-unfolding table
-lone_fits (Pair c (Pair n (Pair g (Pair s (Pair t (Pair (First v) (Pair (Called m (Node k w)) e))))))) f =
-    let h = f.1.1.1.1.1.1.0.1 in
-    valued_kept c n g s t v m k w e h.0 (λ i. there_fits w (subst (λ j. Fits w (table j)) i h.3))
-lone_fits (Pair c (Pair n (Pair g (Pair s (Pair t (Pair (First v) (Pair (Called m _) e))))))) f =
-    absurd f.1.1.1.1.1.1.0.1
-lone_fits (Pair c (Pair n (Pair g (Pair s (Pair t (Pair (First v) (Pair _ e))))))) f = absurd f.1.1.1.1.1.1.0
-lone_fits (Pair c (Pair n (Pair g (Pair s (Pair t (Pair (First v) _)))))) f = absurd f.1.1.1.1.1.1
-lone_fits (Pair c (Pair n (Pair g (Pair s (Pair t (Pair (Second v) e)))))) f = refl
-lone_fits (Pair c (Pair n (Pair g (Pair s (Pair t (Pair _ e)))))) f = absurd f.1.1.1.1.1.0
-lone_fits (Pair c (Pair n (Pair g (Pair s (Pair t _))))) f = absurd f.1.1.1.1.1
-lone_fits (Pair c (Pair n (Pair g (Pair s _)))) f = absurd f.1.1.1.1
-lone_fits (Pair c (Pair n (Pair g _))) f = absurd f.1.1.1
-lone_fits (Pair c (Pair n _)) f = absurd f.1.1
-lone_fits (Pair c _) f = absurd f.1
-lone_fits _ f = absurd f
-
-lone_kept : (x : Tree) (r : List Token) → Derives x (table AConst) r → has_lone_value (kept x) ≡ has_lone_value x
-unfolding table
-lone_kept (Pair c (Pair n (Pair g (Pair s (Pair t (Pair (First v) (Pair (Called m (Node k w)) e))))))) r d =
-    let h = d.1.1.1.1.1.1.0.1 in
-    valued_kept c n g s t v m k w e h.0
-    (λ i. there_kept w (flat e ++ r) (subst (λ j. Derives w (table j) (flat e ++ r)) i h.1))
-lone_kept (Pair c (Pair n (Pair g (Pair s (Pair t (Pair (First v) (Pair (Called m _) e))))))) r d =
-    absurd d.1.1.1.1.1.1.0.1
-lone_kept (Pair c (Pair n (Pair g (Pair s (Pair t (Pair (First v) (Pair _ e))))))) r d = absurd d.1.1.1.1.1.1.0
-lone_kept (Pair c (Pair n (Pair g (Pair s (Pair t (Pair (First v) _)))))) r d = absurd d.1.1.1.1.1.1
-lone_kept (Pair c (Pair n (Pair g (Pair s (Pair t (Pair (Second v) e)))))) r d = refl
-lone_kept (Pair c (Pair n (Pair g (Pair s (Pair t (Pair _ e)))))) r d = absurd d.1.1.1.1.1.0
-lone_kept (Pair c (Pair n (Pair g (Pair s (Pair t _))))) r d = absurd d.1.1.1.1.1
-lone_kept (Pair c (Pair n (Pair g (Pair s _)))) r d = absurd d.1.1.1.1
-lone_kept (Pair c (Pair n (Pair g _))) r d = absurd d.1.1.1
-lone_kept (Pair c (Pair n _)) r d = absurd d.1.1
-lone_kept (Pair c _) r d = absurd d.1
-lone_kept _ r d = absurd d
-
-lone_normal : (v : Tree) → has_lone_value v ≡ true → has_lone_value (normal_in Plain v) ≡ true
-unfolding passed place_of
-lone_normal (Pair c (Pair n (Pair g (Pair s (Pair t (Pair (First v) (Pair (Called m (Node Where w)) e))))))) h =
-    there_tidy _ _ (ap not (there_normal _ w) ∙ h)
-lone_normal _ h = refl
-
-pub law_const : KindLaw AConst
-unfolding has_step held passed place_of table
-law_const = record { entry = λ q l. simple_law Plain (table AConst) refl; node = go }
-  where
-    go : (q : Position) → IsPlaced q AConst → (x : Tree) (r : List Token) → has_lone_value x ≡ true
-        → Derives x (table AConst) r → Printed (table AConst) (normal_in (passed AConst q) (kept x))
-        → Printed (ref AConst) (normal_in q (Node (held AConst) (kept x)))
-    go q l x r m d i =
-        let b : has_lone_value i.tree ≡ true =
-        sym (lone_fits i.tree i.fits) ∙ ap has_lone_value i.kept_is ∙ lone_normal (kept x) (lone_kept x r d ∙ m) in
-        record {
-          tree = Node AConst i.tree;
-          fits = (refl, refl, refl, i.fits, b);
-          kept_is = ap (Node AConst) i.kept_is;
-        }
-
--- Of an unnamed field: whether its type begins a restriction, as it is printed.
 pub chosen_fits : (w : Tree) (g : Gram) → Fits w g → is_there (kept w) ≡ is_there w
 chosen_fits (Back l k y) _ f = absurd f
 chosen_fits _ _ f = refl
@@ -469,6 +379,7 @@ pub chosen_read : (x : Tree) (g : Gram) (r : List Token) → Derives x g r → i
 chosen_read (Back l k y) _ r d = absurd d
 chosen_read _ _ r d = refl
 
+-- Of an unnamed field: whether its type begins a restriction, as it is printed.
 pub law_unnamed_field : KindLaw UnnamedField
 unfolding has_step held passed place_of table
 law_unnamed_field = record { entry = λ q l. simple_law Plain (table UnnamedField) refl; node = go }

@@ -6,6 +6,7 @@ pub mod Begins
 pub mod MacroPaths
 pub mod FieldTypes
 pub mod Fits
+pub mod CalledParts
 pub mod Bare
 pub mod RawItems
 pub mod Readies

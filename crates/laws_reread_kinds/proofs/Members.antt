@@ -43,7 +43,7 @@ use Rattle.laws_reread_kinds.proofs.Fine.{At, AtOrNone, Edge, Fine, fine_called,
 use Rattle.laws_reread_kinds.proofs.Parts.{Found, Maybe, Told, found_called, found_optional, found_ref, found_text}
 use Rattle.laws_reread_kinds.proofs.Parts.{maybe_ahead, maybe_called, maybe_ref, meant_step, none_never, told_at}
 use Rattle.laws_reread_kinds.proofs.Printed.{KindLaw, simple_law}
-use Rattle.laws_reread_kinds.proofs.Impls.{lacks_part}
+use Rattle.laws_reread_kinds.proofs.CalledParts.{lacks_part}
 use Rattle.laws_reread_kinds.proofs.ItemPlaces.{has_none, placed_own}
 use Rattle.laws_reread_kinds.proofs.ItemVerdicts.{EachOf, LawOf, alias_stays, constant_parts, constant_stays, form_same}
 use Rattle.laws_reread_kinds.proofs.ItemVerdicts.{none_raw, raw_none, same_has}

@@ -1,11 +1,14 @@
 -- The steps of kinds whose value may not begin or end as each expression does.
-use Rattle.std.proofs.Common.{◌≡◌, List, [], ◌∷◌, ◌++◌, refl, subst}
-use Rattle.std.specs.Prelude.{Bool, true, false, codes}
+use Rattle.std.proofs.Common.{◌≡◌, List, [], ◌∷◌, ◌++◌, refl, sym, ap, ◌∙◌, subst}
+use Rattle.std.specs.Prelude.{Bool, true, false, not, codes, cond, Some, None}
+use Rattle.std.proofs.lemmas.Bool.{false≢true}
 use Rattle.proc_macro2.specs.Token.{Token}
 use Rattle.syn_grammar.specs.Kind.{Kind, AConst, AType, Delimited, Expression, Generics, InModule, Meta, Path}
-use Rattle.syn_grammar.specs.Kind.{Plain, Where}
+use Rattle.syn_grammar.specs.Kind.{Plain, Where, WhereClause}
 use Rattle.syn_grammar.specs.Kind.{WithPlus}
-use Rattle.syn_grammar.specs.Name.{Part, the_generics, the_name, the_type, the_value, the_where}
+use Rattle.syn_grammar.specs.Name.{Part, same_part, the_clause, the_generics, the_name, the_type, the_value, the_where}
+use Rattle.syn_grammar.specs.Part.{found, has, is_some, or_else, or_nil, the}
+use Rattle.syn_grammar.specs.Verdicts.{is_where}
 use Rattle.syn_grammar.specs.Tree.{Tree, Nil, Pair, First, Second, Called, Node, Whole, flat}
 use Rattle.syn_grammar.specs.Gram.{Gram, ref}
 use Rattle.syn_grammar.specs.Look.{no, the_end, ◌or◌}
@@ -19,12 +22,15 @@ use Rattle.syn_grammar.specs.Derives.{Derives}
 use Rattle.laws_reread_kinds.specs.After.{behind}
 use Rattle.laws_reread_kinds.specs.Sees.{Lacks}
 use Rattle.laws_reread_kinds.specs.Covered.{has_lone_value}
+use Rattle.laws_reread_kinds.proofs.CalledParts.{called_fits, past_fits}
+use Rattle.laws_reread_kinds.proofs.Choices.{both_same}
 use Rattle.laws_reread_kinds.proofs.Classes.{Sign, TheWord, ◌&◌}
 use Rattle.laws_reread_kinds.proofs.Starts.{starts}
 use Rattle.laws_reread_kinds.proofs.Sights.{ident_not}
 use Rattle.laws_reread_kinds.proofs.Keywords.{reserved_underscore, reserved_unsafe, reserved_where}
 use Rattle.laws_reread_kinds.proofs.Fits.{Fits, has_bare_value}
 use Rattle.laws_reread_kinds.proofs.Bare.{bare_lacks}
+use Rattle.laws_reread_kinds.proofs.Verdicts.{some_either}
 use Rattle.laws_reread_kinds.proofs.Readies.{Step}
 use Rattle.laws_reread_kinds.proofs.Parts.{Found, found_alt, found_before, found_called, found_mark, found_never}
 use Rattle.laws_reread_kinds.proofs.Parts.{found_optional}
@@ -166,6 +172,39 @@ chosen_in _ f = absurd f
 where_chosen : (k : Kind) (w : Tree) → k ≡ Where → Fits w (table k) → is_chosen w ≡ true
 where_chosen k w e f = chosen_in w (subst (λ j. Fits w (table j)) e f)
 
+-- one that is there, behind a value
+value_there : (v : Tree) → Fits v (sign "=" ▸ the_value ∶ ref (Expression Plain)) → has the_value v ≡ true
+unfolding same_part
+value_there (Pair a b) f =
+    ap is_some (past_fits the_value 1 (Pair a b) (sign "=" ▸ the_value ∶ ref (Expression Plain)) f refl)
+    ∙ called_fits the_value b (ref (Expression Plain)) f.1 refl
+value_there _ f = absurd f
+
+clause_there : (k : Kind) (z : Tree) → k ≡ Where → Fits (First z) (table k) → is_where (Node k (First z)) ≡ true
+unfolding table same_part
+clause_there k z e f =
+    ap (λ j. is_where (Node j (First z))) e
+    ∙ called_fits the_clause z (ref WhereClause) (subst (λ j. Fits (First z) (table j)) e f).1 refl
+
+value_and_where : (c n g q t v z e : Tree) (l : Part) (k : Kind)
+    → Fits (Pair c (Pair n (Pair g (Pair q (Pair t (Pair (First v) (Pair (Called l (Node k (First z))) e)))))))
+    (table AConst)
+    → has_lone_value (Pair c (Pair n (Pair g (Pair q (Pair t (Pair (First v)
+    (Pair (Called l (Node k (First z))) e))))))) ≡ false
+unfolding table same_part
+value_and_where c n g q t v z e l k f =
+    let w : Tree = Pair (Called l (Node k (First z))) e in
+    let x : Tree = Pair c (Pair n (Pair g (Pair q (Pair t (Pair (First v) w))))) in
+    let h = f.1.1.1.1.1 in
+    let i : has the_value x ≡ true =
+    ap is_some (past_fits the_value 5 x (table AConst) f refl)
+    ∙ some_either (found the_value v) (found the_value w) (Some Nil) (found the_value w) (value_there v h.0.1) refl in
+    let j : is_where (the the_where x) ≡ true =
+    ap (λ o. is_where (or_nil o)) (past_fits the_where 6 x (table AConst) f refl
+    ∙ ap (λ m. or_else (cond (same_part m the_where) (Some (Node k (First z))) None) (found the_where e)) h.1.0.0)
+    ∙ clause_there k z h.1.0.1.0 h.1.0.1.3 in
+    ap not (both_same (has the_value x) (is_where (the the_where x)) true true i j)
+
 pub step_a_const : Step AConst
 unfolding table skips
 step_a_const (Pair c (Pair n (Pair g (Pair q (Pair t (Pair (Second z) e)))))) s f m w a =
@@ -182,11 +221,7 @@ step_a_const (Pair c (Pair n (Pair g (Pair q (Pair t (Pair (First v) (Pair (Call
     ((d.0, (d.1.0, (d.1.1.0, (d.1.1.1.0, (d.1.1.1.1.0, (u.0, h)))))), i)
 step_a_const (Pair c (Pair n (Pair g (Pair q (Pair t (Pair (First v) (Pair (Called l (Node k (First z))) e))))))) s f
     m w a =
-    let o : false ≡ true =
-    subst (λ j. has_lone_value
-    (Pair c (Pair n (Pair g (Pair q (Pair t (Pair (First v) (Pair (Called l (Node j (First z))) e)))))))
-    ≡ true) f.1.1.1.1.1.1.0.1.0 m in
-    cc o
+    absurd (false≢true (sym (value_and_where c n g q t v z e l k f) ∙ m))
 step_a_const (Pair c (Pair n (Pair g (Pair q (Pair t (Pair (First v) (Pair (Called l (Node k z)) e))))))) s f m w a =
     let h = f.1.1.1.1.1.1.0.1 in
     let o : is_chosen z ≡ true = where_chosen k z h.0 h.3 in

@@ -32,7 +32,6 @@ use Rattle.syn_grammar.specs.Kind.{WildPattern, WithPlus, WithoutPlus}
 use Rattle.syn_grammar.specs.Tree.{Tree, AWord, Pair, First, Second, Again, Final, More, Group, Dropped, Called}
 use Rattle.syn_grammar.specs.Tree.{Verbatim}
 use Rattle.syn_grammar.specs.Tree.{Node, Whole, Alone, Front, Back, Infix, flat}
-use Rattle.syn_grammar.specs.Words.{is_ident}
 use Rattle.rust_leaf.specs.Keywords.{is_among, same_text}
 use Rattle.syn_grammar.specs.Look.{a_lifetime, sees, ◌then◌, ◌or◌}
 use Rattle.syn_grammar.specs.Say.{at, marks}
@@ -41,10 +40,11 @@ use Rattle.syn_grammar.specs.Forms.{is_brace_macro}
 use Rattle.proc_macro2.specs.Token.{Ident}
 use Rattle.syn_grammar.specs.Kind.{InStatement}
 use Rattle.std.specs.Bool.{◌==◌}
-use Rattle.syn_grammar.specs.Name.{the_const, the_default}
-use Rattle.syn_grammar.specs.Part.{choice, has}
+use Rattle.syn_grammar.specs.Name.{the_const, the_default, the_first, the_self, the_value, the_where}
+use Rattle.syn_grammar.specs.Part.{choice, has, the}
 use Rattle.syn_grammar.specs.Kept.{is_there, kept}
-use Rattle.syn_grammar.specs.Verdicts.{is_path_type}
+use Rattle.syn_grammar.specs.Tidy.{is_lone_path}
+use Rattle.syn_grammar.specs.Verdicts.{is_path_type, is_where}
 
 unfoldable pub has_step : Kind → Bool
 has_step (Path InModule) = true
@@ -311,9 +311,7 @@ is_form k = has_form_step k
 
 -- A constant has no where clause behind a value: an item with both is raw.
 abbrev pub has_lone_value : Tree → Bool
-has_lone_value (Pair c (Pair n (Pair g (Pair s (Pair t (Pair (First v) (Pair (Called m (Node Where w)) e))))))) =
-    not (is_there w)
-has_lone_value _ = true
+has_lone_value x = not (has the_value x && is_where (the the_where x))
 
 abbrev pub inner : Tree → Tree
 inner (Node k x) = x
@@ -323,25 +321,14 @@ abbrev pub front : Tree → Tree
 front (Pair x y) = x
 front x = x
 
--- One identifier alone is read as a path pattern before ... alone, where no pattern stands.
-abbrev pub lone_names : Tree → Bool
-lone_names (Second (Pair (AWord cs) (Second (Second (Second e))))) = is_ident cs
-lone_names _ = false
-
-abbrev pub lone_path : Tree → Bool
-lone_path (Pair (Second z) y) = lone_names (inner y)
-lone_path _ = false
-
-abbrev pub lone_any : Tree → Bool
-lone_any (Second y) = lone_path (inner y)
-lone_any _ = false
-
 abbrev pub lone_rest : Tree → Bool
 lone_rest (Second (Second (Second e))) = true
 lone_rest _ = false
 
+-- A path pattern that is one identifier alone is read before ... only: elsewhere the identifier is a binding, or begins
+-- a range.
 abbrev pub lone_pattern : Tree → Bool
-lone_pattern (Pair p e) = lone_any (inner p) && lone_rest e
+lone_pattern (Pair p e) = is_lone_path p && lone_rest e
 lone_pattern _ = false
 
 abbrev pub is_lone : Tree → Bool
@@ -350,9 +337,7 @@ is_lone _ = false
 
 -- What is implemented is a path: else an item with it is raw.
 abbrev pub has_own_trait : Tree → Bool
-has_own_trait (First (Pair d (Pair c (Pair u (Pair i (Pair g (Pair p (Pair (Called m t) (Pair f y))))))))) =
-    not (is_there f) || is_path_type t
-has_own_trait _ = true
+has_own_trait x = not (has the_self x && not (is_path_type (the the_first x)))
 
 abbrev pub is_no_macro : Tree → Bool
 is_no_macro (Node (ItemMacro p) x) = false

@@ -22,7 +22,8 @@
 //! which has the attributes in front of an expression) and `StatementLists`, `Arms`, and for the script `Seconds`,
 //! `Params` and `FieldNames`; `RawItems` has how raw ones begin, and `RawTurns` those among statements whose last mark
 //! is set apart, which are read back as `laws_items` says; `Passed` has what stands behind attributes. `Elements` has
-//! the verdicts on lists, and `Choices` what is true of booleans and of one look or another. What all this needs of
-//! expressions stands in one place (`Expressions`): the steps and laws of the kinds of their forms and of a statement,
-//! and that an expression is printed where their own parts are.
+//! the verdicts on lists, `CalledParts` where a part of a form is found by its name, and `Choices` what is true of
+//! booleans and of one look or another. What all this needs of expressions stands in one place (`Expressions`): the
+//! steps and laws of the kinds of their forms and of a statement, and that an expression is printed where their own
+//! parts are.
 #![tactic(auto)]
