@@ -7,7 +7,8 @@ use Rattle.syn_parse.specs.Leaf.{ident_text}
 use Rattle.syn_parse.specs.Ident.{Ident}
 use Rattle.syn_parse.specs.Literal.{Literal}
 use Rattle.syn_parse.specs.Kinds.{marks_stand}
-use Rattle.syn_parse.specs.Table.{is_reserved, marks, word}
+use Rattle.syn_parse.specs.Keywords.{is_reserved}
+use Rattle.syn_parse.specs.Table.{marks, word}
 use Rattle.syn_parse.specs.Values.{word_tokens}
 use Rattle.syn_parse.specs.Punctuation.{Punctuation}
 use Rattle.syn_parse.specs.Lists.{separators, values}

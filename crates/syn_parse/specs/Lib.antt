@@ -3,6 +3,7 @@ pub use Rattle.proc_macro2.specs.Flat
 pub use Rattle.proc_macro2.specs.Token
 pub use Rattle.proc_macro2.specs.Trees
 pub use Rattle.proc_macro2.specs.declared.delimiter.Delimiter
+pub use Rattle.rust_leaf.specs.Keywords
 pub use Rattle.rust_leaf.specs.Leaf
 pub use Rattle.rust_leaf.specs.declared.ident.Ident
 pub use Rattle.rust_leaf.specs.declared.literal.Literal
