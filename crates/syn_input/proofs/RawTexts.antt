@@ -6,7 +6,7 @@ use Rattle.std.specs.List.{list_all}
 use Rattle.std.specs.Str.{chars, encode_utf8_all}
 use Rattle.unicode_ident.specs.Ident.{is_xid_continue}
 use Rattle.unicode_ident.proofs.IdentLemmas.{is_xid_continue-ascii}
-use Rattle.rust_leaf.specs.Identifier.{begins_identifier, is_ident_text, is_identifier, is_raw_identifier, is_reserved}
+use Rattle.rust_leaf.specs.Identifier.{begins_identifier, is_ident_text, is_identifier, is_raw_identifier, is_never_raw}
 use Rattle.rust_leaf.specs.Leaf.{ident_text}
 use Rattle.rust_leaf.specs.declared.ident.Ident.{Ident}
 use Rattle.rust_leaf.proofs.Texts.{printed_leaf}
@@ -37,9 +37,9 @@ no_hash cs =
 -- behind the r# of an identifier's text stands that of an identifier
 pub behind_raw_text : (cs : List ℕ) → IsTrue (is_ident_text (114 ∷ 35 ∷ cs)) → IsTrue (is_ident_text cs)
 behind_raw_text cs h =
-    let raw : IsTrue (is_identifier cs && not (is_reserved cs)) =
+    let raw : IsTrue (is_identifier cs && not (is_never_raw cs)) =
     second_true (is_identifier (114 ∷ 35 ∷ cs)) (is_raw_identifier (114 ∷ 35 ∷ cs)) (no_hash cs) h in
-    or_first (is_identifier cs) (is_raw_identifier cs) (first_true (is_identifier cs) (not (is_reserved cs)) raw)
+    or_first (is_identifier cs) (is_raw_identifier cs) (first_true (is_identifier cs) (not (is_never_raw cs)) raw)
 
 -- what an identifier prints are its characters
 pub printed_ident : (i : Ident) (bs : List ℕ) → bs ≡ encode_utf8_all (ident_text i) → chars bs ≡ ident_text i
