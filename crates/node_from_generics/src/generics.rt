@@ -249,7 +249,8 @@ pub fn generics<E: Drop, R: Reader<E>>(
     ensures params { IfOk result (λ x. views.generics R.view x ≡ kept tree.now) }
     ensures clause { IfOk result (λ x. x.where_clause ≡ where_clause) }
 {
-    angled_params(below, take::node(Kind::Generics, tree), where_clause)
+    let inner = take::node(Kind::Generics, tree);
+    Ok(angled_params(below, inner, where_clause)?)
 }
 
 /// The parameters of an impl with those conditions.
@@ -269,7 +270,8 @@ pub fn impl_generics<E: Drop, R: Reader<E>>(
     ensures params { IfOk result (λ x. views.impl_generics R.view x ≡ kept tree.now) }
     ensures clause { IfOk result (λ x. x.where_clause ≡ where_clause) }
 {
-    angled_params(below, take::node(Kind::ImplGenerics, tree), where_clause)
+    let inner = take::node(Kind::ImplGenerics, tree);
+    Ok(angled_params(below, inner, where_clause)?)
 }
 
 // A condition on a lifetime.

@@ -46,11 +46,11 @@ pub fn one_pattern<E: Drop, R: Maker<E>>(below: &R, tree: &Tree<'_>) -> Result<P
         1 => Ok(Pat::Wild(pat_wild(below, own))),
         2 => Ok(Pat::Range(range_to(below, own)?)),
         3 => Ok(Pat::Rest(pat_rest(below, own))),
-        4 => pat_tuple(below, own),
+        4 => Ok(pat_tuple(below, own)?),
         5 => Ok(Pat::Slice(pat_slice(below, own)?)),
         6 => Ok(Pat::Reference(pat_reference(below, own)?)),
-        7 => literal_pattern(below, own),
-        _ => path_pattern(below, own),
+        7 => Ok(literal_pattern(below, own)?),
+        _ => Ok(path_pattern(below, own)?),
     }
 }
 
@@ -89,7 +89,7 @@ pub fn pattern<E: Drop, R: Maker<E>>(below: &R, tree: &Tree<'_>) -> Result<Pat<E
     match take::optional(vert) {
         Some(mark) => Ok(Pat::Or(pat_or(below, Some(take::sign(mark)), first, more)?)),
         None => if is_end(more) {
-            one_pattern(below, first)
+            Ok(one_pattern(below, first)?)
         } else {
             Ok(Pat::Or(pat_or(below, None, first, more)?))
         },
