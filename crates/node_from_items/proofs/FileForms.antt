@@ -125,7 +125,7 @@ item_verdict_of x a v f w q n h e d u =
     (subst (λ b. item_verdict k.InFile b ≡ Keep) e d) in
     let z = t.Called the_item (among 22 n f) in
     sym (ap (λ b. form_in_file b (choice (the the_item (t.Pair a (t.Pair v z)))))
-        (ap is_public (the_visibility_of a v z s.0 s.1.0) ∙ public_kept v w s.1.0 u)
+    (ap is_public (the_visibility_of a v z s.0 s.1.0) ∙ public_kept v w s.1.0 u)
     ∙ ap (λ y. form_in_file (is_public w) (choice y)) (the_item_of a v (among 22 n f) s.0 s.1.0)
     ∙ ap (λ y. form_in_file (is_public w) y) (node_chosen 22 n f item_form refl s.1.1.1)) ∙ r
 
@@ -186,9 +186,9 @@ pub foreign_chosen : (n : ℕ) (f : Tree) → (n ≡ 2) ⊎ (n ≡ 8) → IsShap
 foreign_chosen n f o h e =
     ⊎_elim
     (λ i. foreign_2 f h (subst (λ l. is_numbered 0 (among 22 l f) ≡ true) i e)
-        ∙ ap (λ l. kept (among 22 l f)) (sym i))
+    ∙ ap (λ l. kept (among 22 l f)) (sym i))
     (λ i. foreign_8 f h (subst (λ l. is_numbered 0 (among 22 l f) ≡ true) i e)
-        ∙ ap (λ l. kept (among 22 l f)) (sym i)) o
+    ∙ ap (λ l. kept (among 22 l f)) (sym i)) o
 
 -- a module
 
@@ -231,7 +231,7 @@ trait_11 _ z h e = absurd h
 
 trait_node : (n : ℕ) (f w : Tree)
     → ((y : Tree) → IsShaped y (table k.ATrait) → is_numbered n (t.First (t.Node k.ATrait y)) ≡ true
-        → by_unsafe (is_unsafe (what_is_kept y)) 18 11 (kept f) ≡ w)
+    → by_unsafe (is_unsafe (what_is_kept y)) 18 11 (kept f) ≡ w)
     → IsShaped f (ref k.ATrait) → is_numbered n (t.First f) ≡ true
     → by_unsafe (is_unsafe (what_is_kept (own f))) 18 11 (kept f) ≡ w
 trait_node n (t.Node j y) w d h e =
@@ -245,11 +245,11 @@ pub trait_chosen : (n : ℕ) (f : Tree) → (n ≡ 11) ⊎ (n ≡ 18) → IsShap
 trait_chosen n f o h e =
     ⊎_elim
     (λ i. trait_node 11 f (alternative 11 (kept f)) (λ y. trait_11 y (kept f)) h
-        (subst (λ l. is_numbered 0 (among 22 l f) ≡ true) i e)
-        ∙ ap (λ l. kept (among 22 l f)) (sym i))
+    (subst (λ l. is_numbered 0 (among 22 l f) ≡ true) i e)
+    ∙ ap (λ l. kept (among 22 l f)) (sym i))
     (λ i. trait_node 18 f (alternative 18 (kept f)) (λ y. trait_18 y (kept f)) h
-        (subst (λ l. is_numbered 0 (among 22 l f) ≡ true) i e)
-        ∙ ap (λ l. kept (among 22 l f)) (sym i)) o
+    (subst (λ l. is_numbered 0 (among 22 l f) ≡ true) i e)
+    ∙ ap (λ l. kept (among 22 l f)) (sym i)) o
 
 -- an impl
 
@@ -269,7 +269,7 @@ impl_10 _ z h e = absurd h
 
 impl_node : (n : ℕ) (f w : Tree)
     → ((y : Tree) → IsShaped y (table k.AnImpl) → is_numbered n (t.First (t.Node k.AnImpl y)) ≡ true
-        → by_unsafe (is_unsafe_impl (what_is_kept y)) 19 10 (kept f) ≡ w)
+    → by_unsafe (is_unsafe_impl (what_is_kept y)) 19 10 (kept f) ≡ w)
     → IsShaped f (ref k.AnImpl) → is_numbered n (t.First f) ≡ true
     → by_unsafe (is_unsafe_impl (what_is_kept (own f))) 19 10 (kept f) ≡ w
 impl_node n (t.Node j y) w d h e =
@@ -283,11 +283,11 @@ pub impl_chosen : (n : ℕ) (f : Tree) → (n ≡ 10) ⊎ (n ≡ 19) → IsShape
 impl_chosen n f o h e =
     ⊎_elim
     (λ i. impl_node 10 f (alternative 10 (kept f)) (λ y. impl_10 y (kept f)) h
-        (subst (λ l. is_numbered 0 (among 22 l f) ≡ true) i e)
-        ∙ ap (λ l. kept (among 22 l f)) (sym i))
+    (subst (λ l. is_numbered 0 (among 22 l f) ≡ true) i e)
+    ∙ ap (λ l. kept (among 22 l f)) (sym i))
     (λ i. impl_node 19 f (alternative 19 (kept f)) (λ y. impl_19 y (kept f)) h
-        (subst (λ l. is_numbered 0 (among 22 l f) ≡ true) i e)
-        ∙ ap (λ l. kept (among 22 l f)) (sym i)) o
+    (subst (λ l. is_numbered 0 (among 22 l f) ≡ true) i e)
+    ∙ ap (λ l. kept (among 22 l f)) (sym i)) o
 
 -- an impl with const in front is kept as its tokens
 
@@ -349,20 +349,20 @@ no_other_item b (suc (suc (suc (suc (suc (suc (suc (suc (suc (suc (suc (suc (suc
 no_other_item b (suc (suc (suc (suc (suc (suc (suc (suc (suc (suc (suc (suc (suc (suc (suc (suc zero))))))))))))))))
     f _ _ _ _ _ _ _ _ _ _ _ _ _ _ h _ _ _ s e d = h refl
 no_other_item b (suc (suc (suc (suc (suc (suc (suc (suc (suc (suc (suc (suc
-        (suc (suc (suc (suc (suc zero)))))))))))))))))
+    (suc (suc (suc (suc (suc zero)))))))))))))))))
     f _ _ _ _ _ _ _ _ _ _ _ _ _ _ _ _ _ _ s e d = file_raw b f k.ARestrictedTrait (λ x. refl) s d
 no_other_item b (suc (suc (suc (suc (suc (suc (suc (suc (suc (suc (suc (suc
-        (suc (suc (suc (suc (suc (suc zero))))))))))))))))))
+    (suc (suc (suc (suc (suc (suc zero))))))))))))))))))
     f _ _ _ _ _ _ _ _ _ _ _ _ _ _ _ h _ _ s e d = h refl
 no_other_item b (suc (suc (suc (suc (suc (suc (suc (suc (suc (suc (suc (suc
-        (suc (suc (suc (suc (suc (suc (suc zero)))))))))))))))))))
+    (suc (suc (suc (suc (suc (suc (suc zero)))))))))))))))))))
     f _ _ _ _ _ _ _ _ _ _ _ _ _ _ _ _ h _ s e d = h refl
 no_other_item b (suc (suc (suc (suc (suc (suc (suc (suc (suc (suc (suc (suc
-        (suc (suc (suc (suc (suc (suc (suc (suc zero))))))))))))))))))))
+    (suc (suc (suc (suc (suc (suc (suc (suc zero))))))))))))))))))))
     f _ _ _ _ _ _ _ _ _ _ _ _ _ _ _ _ _ _ s e d = file_raw b f k.AMacroDefinition (λ x. refl) s d
 no_other_item b (suc (suc (suc (suc (suc (suc (suc (suc (suc (suc (suc (suc
-        (suc (suc (suc (suc (suc (suc (suc (suc (suc zero)))))))))))))))))))))
+    (suc (suc (suc (suc (suc (suc (suc (suc (suc zero)))))))))))))))))))))
     f _ _ _ _ _ _ _ _ _ _ _ _ _ _ _ _ _ h s e d = h refl
 no_other_item b (suc (suc (suc (suc (suc (suc (suc (suc (suc (suc (suc (suc
-        (suc (suc (suc (suc (suc (suc (suc (suc (suc (suc n))))))))))))))))))))))
+    (suc (suc (suc (suc (suc (suc (suc (suc (suc (suc n))))))))))))))))))))))
     f _ _ _ _ _ _ _ _ _ _ _ _ _ _ _ _ _ _ s e d = shaped_never f s

@@ -113,7 +113,7 @@ foreign_verdict x a v z f j e h d r s =
     found_behind the_item a (t.Pair v z) (found_node the_item a _ sh.0)
     ∙ found_behind the_item v z (found_other the_item the_visibility v _ refl sh.1.0) ∙ r in
     sym (ap (λ b. form_in_foreign b (choice (the the_item (t.Pair a (t.Pair v z)))))
-        (ap is_public (the_visibility_of a v z sh.0 sh.1.0))
+    (ap is_public (the_visibility_of a v z sh.0 sh.1.0))
     ∙ ap (λ o. form_in_foreign (is_public (inside v)) (choice (or_nil o))) p
     ∙ ap (λ y. form_in_foreign (is_public (inside v)) y) (node_itself f j s))
     ∙ subst (λ b. item_verdict k.InForeign b ≡ Keep) e d

@@ -76,10 +76,10 @@ alias_plain u a w i g b sh e =
     let q = neither (has the_equals x) (has the_safety x) (has the_auto x) (kept_true (is_trait x) e)
     (equals_there u a w i g b sh) in (
       none_there the_safety u _ _ refl sh.0
-      (found_in the_safety u (t.Pair a (t.Pair w (t.Pair i (t.Pair g (t.First b))))) q.0),
+          (found_in the_safety u (t.Pair a (t.Pair w (t.Pair i (t.Pair g (t.First b))))) q.0),
       none_there the_auto a _ _ refl sh.1.0 (found_in the_auto a (t.Pair w (t.Pair i (t.Pair g (t.First b))))
-      (sym (ap is_some (found_behind the_auto u (t.Pair a (t.Pair w (t.Pair i (t.Pair g (t.First b)))))
-      (maybe_other the_auto the_safety u _ _ refl sh.0))) ∙ q.1)),
+          (sym (ap is_some (found_behind the_auto u (t.Pair a (t.Pair w (t.Pair i (t.Pair g (t.First b)))))
+          (maybe_other the_auto the_safety u _ _ refl sh.0))) ∙ q.1)),
     )
 
 -- what is kept as nothing isn't there

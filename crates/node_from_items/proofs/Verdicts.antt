@@ -125,7 +125,7 @@ unmarked p a v d i sh e =
     let q = not_either (is_public (the the_visibility x)) (has the_default x) e in (
       private_part v sh.1.0 (ap is_public (sym (the_visibility_of a v (t.Pair d i) sh.0 sh.1.0)) ∙ q.0),
       sym (ap is_some (found_behind the_default a (t.Pair v (t.Pair d i)) (found_node the_default a _ sh.0)
-      ∙ found_behind the_default v (t.Pair d i) (found_other the_default the_visibility v _ refl sh.1.0))) ∙ q.1,
+          ∙ found_behind the_default v (t.Pair d i) (found_other the_default the_visibility v _ refl sh.1.0))) ∙ q.1,
     )
 
 -- in front of a member of a trait stands neither pub nor default
@@ -212,7 +212,7 @@ pub file_static : (b : Bool) (f : Tree) → IsShaped f (ref k.AStatic) → form_
 file_static b f h e =
     in_kind (λ y. form_in k.InFile b y ≡ Keep → (has the_type (own y) ≡ true) × (has the_value (own y) ≡ true))
     k.AStatic f h (λ x s d. both_true (has the_type x) (has the_value x)
-        (not_raw _ (not_refused (not (has the_type x) && not (has the_value x)) _ d).1)) e
+    (not_raw _ (not_refused (not (has the_type x) && not (has the_value x)) _ d).1)) e
 
 pub file_constant : (b : Bool) (f : Tree) → IsShaped f (ref k.AConst) → form_in k.InFile b f ≡ Keep
     → const_is_raw true (own f) ≡ false
@@ -281,5 +281,5 @@ member_arm p x a v d i y f q n m e h w c r u j z =
     let s = z (subst (λ b. IsShaped b (member_form p)) o (inside_shaped the_item i _ sh.1.1.1)) in (
       s,
       subst (λ b. form_in p (marked p b) f ≡ Keep) (sym e)
-      (member_verdict p a v d i f m j sh o s (subst (λ b. item_verdict p b ≡ Keep) e w)),
+          (member_verdict p a v d i f m j sh o s (subst (λ b. item_verdict p b ≡ Keep) e w)),
     )

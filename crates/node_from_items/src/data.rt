@@ -16,11 +16,11 @@ ghost use Rattle.syn_grammar.specs.Kind as k;
 use crate::front::Front;
 use crate::names::name;
 use crate::values::optional_value;
+use node_from::Reader;
 use node_from::attributes::outer_attributes;
 use node_from::names::name_or;
 use node_from::types::type_;
 use node_from::visibility::visibility;
-use node_from::Reader;
 use node_from_generics::generics::{generics, optional_where};
 use node_generics::clause::WhereClause;
 use node_items::data::{
@@ -183,10 +183,7 @@ pub fn fields_unnamed<E: Drop, R: Reader<E>>(
 
 // The fields of a variant.
 #[tactic(auto, unfolding(syn_grammar::specs::Table::table, syn_grammar::specs::Kept::held, syn_kinds::specs::Table::marks, syn_kinds::specs::Table::sign, syn_kinds::specs::Table::word))]
-fn fields<E: Drop, R: Reader<E>>(
-    below: &R,
-    tree: &Tree<'_>,
-) -> Result<Fields<E>, AllocError>
+fn fields<E: Drop, R: Reader<E>>(below: &R, tree: &Tree<'_>) -> Result<Fields<E>, AllocError>
     requires ready { R.ready below.now }
     requires shaped { IsShaped tree.now variant_fields }
     requires fewer { node_count tree.now ≤ R.bound below.now }
@@ -206,10 +203,7 @@ fn fields<E: Drop, R: Reader<E>>(
 ///
 /// Where there is no memory for it.
 #[tactic(auto, using(crate::proofs::Parts::none_kept), unfolding(syn_grammar::specs::Table::table, syn_grammar::specs::Kept::held, syn_kinds::specs::Table::marks, syn_kinds::specs::Table::sign, syn_kinds::specs::Table::word))]
-pub fn variant<E: Drop, R: Reader<E>>(
-    below: &R,
-    tree: &Tree<'_>,
-) -> Result<Variant<E>, AllocError>
+pub fn variant<E: Drop, R: Reader<E>>(below: &R, tree: &Tree<'_>) -> Result<Variant<E>, AllocError>
     requires ready { R.ready below.now }
     requires shaped { IsShaped tree.now (g.ref k.Variant) }
     requires fewer { node_count tree.now ≤ R.bound below.now }

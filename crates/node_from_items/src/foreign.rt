@@ -176,28 +176,14 @@ fn kept_foreign_item<E: Drop, R: Reader<E>>(
     let front = what_stands_in_front(below, attrs, vis)?;
     let (which, own) = take::alternative(4, form);
     match which {
-        0 => Ok(ForeignItem::Fn(foreign_item_fn(
-            below,
-            front,
-            take::called(own),
-        )?)),
+        0 => Ok(ForeignItem::Fn(foreign_item_fn(below, front, take::called(own))?)),
         1 => {
             let (declared, form) = take::pair(own);
             let form = take::called(form);
-            Ok(ForeignItem::Static(foreign_item_static(
-                below, front, declared, form,
-            )?))
+            Ok(ForeignItem::Static(foreign_item_static(below, front, declared, form)?))
         }
-        2 => Ok(ForeignItem::Type(foreign_item_type(
-            below,
-            front,
-            take::called(own),
-        )?)),
-        3 => Ok(ForeignItem::Macro(foreign_item_macro(
-            below,
-            front.attrs,
-            take::called(own),
-        )?)),
+        2 => Ok(ForeignItem::Type(foreign_item_type(below, front, take::called(own))?)),
+        3 => Ok(ForeignItem::Macro(foreign_item_macro(below, front.attrs, take::called(own))?)),
         _ => unreachable!(),
     }
 }
@@ -265,10 +251,7 @@ fn foreign_content<E: Drop, R: Reader<E>>(
     let (brace_token, inside) = take::group(tree);
     let (within, own) = take::pair(inside);
     push_inner_attributes(below, within, attrs)?;
-    let members = take::each(
-        &ForeignItems { below },
-        take::node(Kind::ForeignItems, own),
-    )?;
+    let members = take::each(&ForeignItems { below }, take::node(Kind::ForeignItems, own))?;
     Ok((brace_token, members))
 }
 

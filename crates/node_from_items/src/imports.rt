@@ -195,10 +195,7 @@ fn use_rooted(alloc: Global, tree: &Tree<'_>) -> Result<UseTree, AllocError>
 
 // What is imported, with the `::` in front, if it is there.
 #[tactic(auto, unfolding(syn_grammar::specs::Table::table, syn_grammar::specs::Kept::held, syn_kinds::specs::Table::marks, syn_kinds::specs::Table::sign, syn_kinds::specs::Table::word))]
-fn imported(
-    alloc: Global,
-    tree: &Tree<'_>,
-) -> Result<(Option<token::PathSep>, UseTree), AllocError>
+fn imported(alloc: Global, tree: &Tree<'_>) -> Result<(Option<token::PathSep>, UseTree), AllocError>
     requires shaped { IsShaped tree.now (g.ref k.UseTop) }
     requires rootless { root_inside tree.now ≡ false }
     ensures { IfOk result (λ p. views.use_top p.0 (views.use_tree p.1) ≡ kept tree.now) }

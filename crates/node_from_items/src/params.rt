@@ -143,7 +143,10 @@ fn followed<E>(variadic: Variadic<E>, comma: Option<token::Comma>) -> Variadic<E
     ensures comma { result.comma ≡ comma }
 {
     let Variadic {
-        attrs, pat, dots, ..
+        attrs,
+        pat,
+        dots,
+        ..
     } = variadic;
     Variadic {
         attrs,

@@ -35,5 +35,10 @@ returns g c =
     let q = alias_undefined f d.placement d.definition d.conditions r.0.now r.1.now r.2.now r.3.now r.4.now r.5.now h e
     (c.in_ok-conditions.ensures.end ∙ ap kept (sym (ap inside c.called.ensures.1))) in
     let p = alias_unbounded k.InForeign r.0.now r.1.now r.2.now r.3.now r.4.now r.5.now h b in
-    cc (p, c.in_ok-conditions.ensures.undefined q, ap kept c.six.ensures, ap kept c.node-inner.ensures.node,
-    ap kept c.called.ensures.1)
+    cc (
+      p,
+      c.in_ok-conditions.ensures.undefined q,
+      ap kept c.six.ensures,
+      ap kept c.node-inner.ensures.node,
+      ap kept c.called.ensures.1,
+    )

@@ -10,14 +10,20 @@ pub optional_keyword-requires : goal.optional_keyword-requires
 unfolding grammar.table table.word
 optional_keyword-requires g c = (
   omega arith,
-  (_, (subst (λ x. IsShaped x (grammar.table (k.Signature (place_of c.args.place)))) c.eight.ensures
-  c.node-inner.ensures.shaped).0),
+  (
+    _,
+    (subst (λ x. IsShaped x (grammar.table (k.Signature (place_of c.args.place)))) c.eight.ensures
+        c.node-inner.ensures.shaped).0,
+  ),
 )
 
 pub optional_keyword-requires-2 : goal.optional_keyword-requires-2
 unfolding grammar.table table.word
 optional_keyword-requires-2 g c = (
   omega arith,
-  (_, (subst (λ x. IsShaped x (grammar.table (k.Signature (place_of c.args.place)))) c.eight.ensures
-  c.node-inner.ensures.shaped).1.0),
+  (
+    _,
+    (subst (λ x. IsShaped x (grammar.table (k.Signature (place_of c.args.place)))) c.eight.ensures
+        c.node-inner.ensures.shaped).1.0,
+  ),
 )

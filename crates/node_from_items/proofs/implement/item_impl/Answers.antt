@@ -31,7 +31,7 @@ head_of-requires-clause-path g c =
     let q = subst (λ x. impl_is_raw x ≡ false) e
     (subst (λ x. impl_is_raw (own x) ≡ false) c.node.ensures.node c.requires.plain) in
     λ (p : keeps.is_there c.three.result.0.now ≡ true). trait_path r.0.now r.1.now r.2.now r.3.now r.4.now r.5.now
-        r.6.now z.0.now (t.Pair z.1.now z.2.now) h.1 q p
+    r.6.now z.0.now (t.Pair z.1.now z.2.now) h.1 q p
 
 pub returns : goal.returns
 unfolding held table

@@ -16,7 +16,7 @@ alternative-which-requires g c = (
   item_form,
   refl,
   (subst (λ b. IsShaped b (called the_item item_form)) c.called.ensures.1
-  (subst (λ b. IsShaped b item_parts) c.three.ensures c.requires.shaped).1.1).1,
+      (subst (λ b. IsShaped b item_parts) c.three.ensures c.requires.shaped).1.1).1,
 )
 
 pub chosen_item-requires-clause-shaped : goal.chosen_item-requires-clause-shaped

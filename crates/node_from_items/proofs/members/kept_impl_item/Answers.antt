@@ -15,7 +15,7 @@ alternative-which-requires g c = (
   member_form k.InImpl,
   refl,
   (subst (λ b. IsShaped b (called the_item (member_form k.InImpl))) c.called.ensures.1
-  (subst (λ b. IsShaped b (member_parts k.InImpl)) c.four.ensures c.requires.shaped).1.1.1).1,
+      (subst (λ b. IsShaped b (member_parts k.InImpl)) c.four.ensures c.requires.shaped).1.1.1).1,
 )
 
 -- impl_item_fn

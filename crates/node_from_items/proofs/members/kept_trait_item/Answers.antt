@@ -15,7 +15,7 @@ alternative-which-requires g c = (
   member_form k.InTrait,
   refl,
   (subst (λ b. IsShaped b (called the_item (member_form k.InTrait))) c.called.ensures.1
-  (subst (λ b. IsShaped b (member_parts k.InTrait)) c.four.ensures c.requires.shaped).1.1.1).1,
+      (subst (λ b. IsShaped b (member_parts k.InTrait)) c.four.ensures c.requires.shaped).1.1.1).1,
 )
 
 -- trait_item_fn

@@ -85,7 +85,7 @@ returns-in_ok-made-in-Some g c =
     c.in-Some.is inv.whole in
     ok_then c.put_last.result _ _ c.put_last.ensures
     (λ p h. h r ∙ dots_final f vs es i x.now (param r c.in_ok-made-in-Some.made) k past
-        c.in_ok-made-in-Some.ensures.param whole)
+    c.in_ok-made-in-Some.ensures.param whole)
 
 pub returns-in-None : goal.returns-in-None
 returns-in-None g c =

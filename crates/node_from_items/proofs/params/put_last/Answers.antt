@@ -13,12 +13,12 @@ returns-in_ok-push_value-in-Arg g c =
     let ps = c.args.list.separators.items in
     let l = c.push_value.new.self in
     λ (f : g.E → Tree). ap (λ zs. listed 44 (fn_arg f) zs l.separators.items) c.in_ok-push_value-in-Arg.ensures.ok
-        ∙ ap (λ qs. listed 44 (fn_arg f) (xs ++ c.in-Arg.arg ∷ []) qs) c.push_value.ensures.separators
-        ∙ listed_last 44 (fn_arg f) xs c.in-Arg.arg ps c.requires
+    ∙ ap (λ qs. listed 44 (fn_arg f) (xs ++ c.in-Arg.arg ∷ []) qs) c.push_value.ensures.separators
+    ∙ listed_last 44 (fn_arg f) xs c.in-Arg.arg ps c.requires
 
 pub returns-in-Dots : goal.returns-in-Dots
 returns-in-Dots g c =
     let xs = c.args.list.values.items in
     let v = c.followed.result in
     λ (f : g.E → Tree). ap (λ m. all_listed 44 (fn_arg f) xs (ended m (variadic f v))) c.followed.ensures.comma
-        ∙ ap (λ y. all_listed 44 (fn_arg f) xs (t.Final y)) (c.followed.ensures.view f)
+    ∙ ap (λ y. all_listed 44 (fn_arg f) xs (t.Final y)) (c.followed.ensures.view f)
