@@ -55,26 +55,27 @@ apart [] = []
 apart (Punct c spacing ∷ []) = Punct c Apart ∷ []
 apart (t ∷ ts) = t ∷ apart ts
 
--- of a raw item
+-- the last mark of a raw item stands alone; any other tree stays as it is
 abbrev pub apart_raw : Tree → Tree
 apart_raw (Node AnItem (Raw ts)) = Node AnItem (Raw (apart ts))
 apart_raw x = x
 
--- of a statement's alternative, whichever it is, where that is a raw item
+-- likewise of a raw item that a statement is, in whichever alternative it stands
 abbrev pub apart_alternative : Tree → Tree
 apart_alternative (First x) = First (apart_raw x)
 apart_alternative (Second x) = Second (apart_alternative x)
 apart_alternative x = x
 
--- of a raw item among statements
+-- likewise of a statement that is a raw item
 abbrev pub apart_item : Tree → Tree
 apart_item (Second (Node AStatement x)) = a_statement (apart_alternative x)
 apart_item x = x
 
--- a parenthesis stands in front that stood not there before
+-- a parenthesis stands in front where none stood before
 abbrev pub is_enclosed : Tree → Tree → Bool
 is_enclosed before after = sees parenthesis (flat after) && not (sees parenthesis (flat before))
 
+-- a raw item's last mark stands alone exactly where a parenthesis was added behind it
 abbrev pub apart_if : Bool → Tree → Tree
 apart_if b x = cond b (apart_item x) x
 

@@ -123,7 +123,7 @@ fn turn_of<'a>(
     steps::seconds(arena, 1, steps::node(arena, Kind::AStatement, inner))
 }
 
-// Whether a parenthesis stands in front of turns that stood not there before.
+// Whether a parenthesis stands in front of turns where none stood before.
 fn is_enclosed(before: &[Tree<'_>], after: &[Tree<'_>]) -> bool
     ensures { result ≡ is_enclosed (turns before.now) (turns after.now) }
 {
