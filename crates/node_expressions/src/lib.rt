@@ -9,7 +9,10 @@
 //! - `block`: blocks, and what runs them.
 //! - `branch`: expressions that choose.
 //! - `closure`: closures.
+//! - `convert` (private): structs as the enum that holds them.
+//! - `expr`: expressions, each of one form.
 //! - `jump`: expressions that leave what runs.
+//! - `placeholder` (private): an expression where none is known yet.
 //! - `statement`: statements.
 #![tactic(auto)]
 
@@ -18,8 +21,11 @@ pub mod block;
 pub mod branch;
 pub mod call;
 pub mod closure;
+mod convert;
+pub mod expr;
 pub mod jump;
 pub mod operator;
+mod placeholder;
 pub mod statement;
 
 pub use atom::{
@@ -33,6 +39,7 @@ pub use block::{
 pub use branch::{Arm, ExprIf, ExprLet, ExprMatch};
 pub use call::{ExprAwait, ExprCall, ExprField, ExprIndex, ExprMethodCall, ExprTry};
 pub use closure::{ClosureModifiers, ExprClosure};
+pub use expr::Expr;
 pub use jump::{ExprBreak, ExprContinue, ExprReturn, ExprYield};
 pub use operator::{
     ExprAssign, ExprBinary, ExprCast, ExprRange, ExprRawAddr, ExprReference, ExprUnary,

@@ -61,7 +61,7 @@ pub struct ItemStatic<E> {
 }
 
 /// Whether a static may be written.
-#[derive(Clone, Copy)]
+#[derive(Clone, Copy, PartialEq, Eq)]
 pub enum StaticMutability {
     /// It may: `mut`.
     Mut(token::Mut),

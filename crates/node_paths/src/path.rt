@@ -1,5 +1,8 @@
 //! Paths, their segments and arguments.
 
+ghost use Rattle.node_paths.specs.declared.path.ReturnType.TheVariants as returns;
+ghost use Rattle.std.specs.Prelude.{◌≡◌};
+
 use rust_leaf::ident::Ident;
 use syn_kinds::lifetime::Lifetime;
 use syn_kinds::token;
@@ -89,6 +92,15 @@ pub enum ReturnType<E> {
     Default,
     /// `->` and a type.
     Type(token::RArrow, Box<E>),
+}
+
+impl<E> Default for ReturnType<E> {
+    ghost is_default = { λ x. x ≡ returns.Default };
+
+    /// Nothing is written.
+    fn default() -> ReturnType<E> {
+        ReturnType::Default
+    }
 }
 
 /// The front of a qualified path: `<T as Iterator>` of `<T as Iterator>::Item`.

@@ -29,14 +29,14 @@ pub struct TypeImplTrait<E> {
 }
 
 /// A type that is found out: `_`.
-#[derive(Clone, Copy)]
+#[derive(Clone, Copy, PartialEq, Eq)]
 pub struct TypeInfer {
     /// `_`
     pub underscore_token: token::Underscore,
 }
 
 /// The type of what doesn't return: `!`.
-#[derive(Clone, Copy)]
+#[derive(Clone, Copy, PartialEq, Eq)]
 pub struct TypeNever {
     /// `!`
     pub bang_token: token::Not,
@@ -72,7 +72,7 @@ pub struct TypePtr<E> {
 }
 
 /// Whether what a raw pointer points to may be written.
-#[derive(Clone, Copy)]
+#[derive(Clone, Copy, PartialEq, Eq)]
 pub enum PointerMutability {
     /// It may not: `*const T`.
     Const(token::Const),

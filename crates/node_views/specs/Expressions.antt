@@ -39,6 +39,8 @@ use Rattle.node_expressions.specs.declared.call.ExprIndex.{ExprIndex}
 use Rattle.node_expressions.specs.declared.call.ExprMethodCall.{ExprMethodCall}
 use Rattle.node_expressions.specs.declared.call.ExprTry.{ExprTry}
 use Rattle.node_expressions.specs.declared.closure.ExprClosure.{ExprClosure}
+use Rattle.node_expressions.specs.declared.expr.Expr.TheVariants as exprs
+use Rattle.node_expressions.specs.declared.expr.Expr.{Expr}
 use Rattle.node_expressions.specs.declared.jump.ExprBreak.{ExprBreak}
 use Rattle.node_expressions.specs.declared.jump.ExprContinue.{ExprContinue}
 use Rattle.node_expressions.specs.declared.jump.ExprReturn.{ExprReturn}
@@ -67,7 +69,8 @@ use Rattle.syn_leaf.specs.declared.operators.UnOp.TheVariants as uns
 use Rattle.syn_leaf.specs.declared.operators.UnOp.{UnOp}
 use Rattle.syn_lists.specs.declared.punctuated.Punctuated.{Punctuated}
 use Rattle.node_words.specs.Words.{◌▸◌, ◌∶◌, alternative, last, judged, absent, optional, mark, keyword}
-use Rattle.node_words.specs.Words.{underscore, enclosed, mark_or, name, lifetime, list, all_listed, turns, expression}
+use Rattle.node_words.specs.Words.{underscore, enclosed, mark_or, name, lifetime, raw, list, all_listed, turns}
+use Rattle.node_words.specs.Words.{expression}
 use Rattle.node_views.specs.Paths.{lit, index, member, return_type, angle_bracketed, any_path, macro, outer_attributes}
 use Rattle.node_views.specs.Paths.{inner_attributes, bound_lifetimes}
 use Rattle.node_views.specs.Patterns.{several, held}
@@ -438,3 +441,46 @@ bin_op (bins.ShrAssign m) = alternative 10 (mark m)
 abbrev pub expr_binary : {E : Type 0} → (E → Tree) → ExprBinary E → Tree
 expr_binary f x =
     attributed f x.attrs.items (t.Infix (f x.left.value) (bin_op_kind x.op) (bin_op x.op) (f x.right.value))
+
+-- An expression, by its form. Tokens that are kept as they are have no attributes of their own in front.
+abbrev pub expr : {E : Type 0} → (E → Tree) → Expr E → Tree
+expr f (exprs.Array x) = expr_array f x
+expr f (exprs.Assign x) = expr_assign f x
+expr f (exprs.Async x) = expr_async f x
+expr f (exprs.Await x) = expr_await f x
+expr f (exprs.Binary x) = expr_binary f x
+expr f (exprs.Block x) = expr_block f x
+expr f (exprs.Break x) = expr_break f x
+expr f (exprs.Call x) = expr_call f x
+expr f (exprs.Cast x) = expr_cast f x
+expr f (exprs.Closure x) = expr_closure f x
+expr f (exprs.Const x) = expr_const f x
+expr f (exprs.Continue x) = expr_continue f x
+expr f (exprs.Field x) = expr_field f x
+expr f (exprs.ForLoop x) = expr_for_loop f x
+expr f (exprs.Group x) = expr_group f x
+expr f (exprs.If x) = expr_if f x
+expr f (exprs.Index x) = expr_index f x
+expr f (exprs.Infer x) = expr_infer f x
+expr f (exprs.Let x) = expr_let f x
+expr f (exprs.Lit x) = expr_lit f x
+expr f (exprs.Loop x) = expr_loop f x
+expr f (exprs.Macro x) = expr_macro f x
+expr f (exprs.Match x) = expr_match f x
+expr f (exprs.MethodCall x) = expr_method_call f x
+expr f (exprs.Paren x) = expr_paren f x
+expr f (exprs.Path x) = expr_path f x
+expr f (exprs.Range x) = expr_range f x
+expr f (exprs.RawAddr x) = expr_raw_addr f x
+expr f (exprs.Reference x) = expr_reference f x
+expr f (exprs.Repeat x) = expr_repeat f x
+expr f (exprs.Return x) = expr_return f x
+expr f (exprs.Struct x) = expr_struct f x
+expr f (exprs.Try x) = expr_try f x
+expr f (exprs.TryBlock x) = expr_try_block f x
+expr f (exprs.Tuple x) = expr_tuple f x
+expr f (exprs.Unary x) = expr_unary f x
+expr f (exprs.Unsafe x) = expr_unsafe f x
+expr f (exprs.Verbatim ts) = raw ts
+expr f (exprs.While x) = expr_while f x
+expr f (exprs.Yield x) = expr_yield f x

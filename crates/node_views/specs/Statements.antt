@@ -94,7 +94,7 @@ let_pattern x y = x ▸ absent ▸ y
 abbrev pub local : {E : Type 0} → (E → Tree) → Local E → Tree
 local f x =
     outer_attributes f x.attrs.items ▸ t.Node k.ALet (judged (keyword x.let_token
-    ▸ let_pattern (f x.pat.value) (optional (local_init f) x.init ▸ mark x.semi_token)))
+    ▸ let_pattern (f x.pat) (optional (local_init f) x.init ▸ mark x.semi_token)))
 
 -- statements
 

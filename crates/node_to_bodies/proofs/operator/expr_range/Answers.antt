@@ -1,0 +1,4 @@
+use Rattle.node_to_bodies.proofs.operator.expr_range.Goals as goal
+
+pub returns : goal.returns
+returns g c = rw c.deref.ensures.value at (c.attributed.ensures _ (c.operands.ensures _ c.limits_mark-mark.ensures))
