@@ -1,0 +1,174 @@
+//! What makes the nodes in one.
+
+ghost use Rattle.node_closed.specs.Views.{item_view, node_view};
+ghost use Rattle.node_from_tree.specs.Nests.{MakesNodes, MakesPatterns, MakesStatements};
+ghost use Rattle.reader_tree.specs.Size.{node_count};
+ghost use Rattle.std.specs.Prelude.{◌≡◌, ◌<◌, ◌≤◌, IfOk};
+
+use node_expressions::expr::Expr;
+use node_expressions::statement::Stmt;
+use node_from::{Reader, What};
+use node_from_bodies::Maker;
+use node_from_items::item::ItemMaker;
+use node_items::{
+    ItemConst, ItemEnum, ItemExternCrate, ItemFn, ItemForeignMod, ItemImpl, ItemMacro, ItemMod,
+    ItemStatic, ItemStruct, ItemTrait, ItemTraitAlias, ItemType, ItemUnion, ItemUse,
+};
+use node_paths::attribute::Attribute;
+use node_patterns::Pat;
+use node_tree::{Item, Node};
+use proc_macro2::tree::TokenStream;
+use reader_tree::tree::Tree;
+use std::alloc::{AllocError, Global};
+
+/// What makes nodes of trees that are smaller than that one.
+#[derive(Clone, Copy)]
+pub struct Below<'t, 'a, N, P, S> {
+    /// That one.
+    pub above: &'t Tree<'a>,
+    /// Where memory is taken from.
+    pub alloc: Global,
+    /// What makes the node of a tree.
+    pub node: N,
+    /// What makes the pattern of a tree that has attributes in front.
+    pub pattern: P,
+    /// What makes the statement of a tree.
+    pub statement: S,
+}
+
+impl<
+    't,
+    'a,
+    N: Fn(Global, What, &Tree<'_>) -> Result<Node, AllocError>,
+    P: Fn(Global, Vec<Attribute<Node>>, &Tree<'_>) -> Result<Node, AllocError>,
+    S: Fn(Global, &Tree<'_>) -> Result<Stmt<Node>, AllocError>,
+> Reader<Node> for Below<'t, 'a, N, P, S>
+{
+    ghost ready = { λ b. MakesNodes (node_count b.above.now) (N.pre b.node) (N.post b.node)
+        × MakesPatterns (node_count b.above.now) (P.pre b.pattern) (P.post b.pattern)
+        × MakesStatements (node_count b.above.now) (S.pre b.statement) (S.post b.statement) };
+
+    ghost bound = { λ b. node_count b.above.now };
+
+    ghost view = { node_view };
+
+    fn alloc(&self) -> Global {
+        self.alloc
+    }
+
+    fn node(&self, what: What, tree: &Tree<'_>) -> Result<Node, AllocError> {
+        (self.node)(self.alloc, what, tree)
+    }
+}
+
+#[tactic(auto, using(node_closed::proofs::Equations::view_expr, node_closed::proofs::Equations::view_pat))]
+impl<
+    't,
+    'a,
+    N: Fn(Global, What, &Tree<'_>) -> Result<Node, AllocError>,
+    P: Fn(Global, Vec<Attribute<Node>>, &Tree<'_>) -> Result<Node, AllocError>,
+    S: Fn(Global, &Tree<'_>) -> Result<Stmt<Node>, AllocError>,
+> Maker<Node> for Below<'t, 'a, N, P, S>
+{
+    fn expression(&self, form: Expr<Node>) -> Node {
+        Node::Expr(form)
+    }
+
+    fn pattern(&self, pattern: Pat<Node>) -> Node {
+        Node::Pat(pattern)
+    }
+
+    fn attributed_pattern(
+        &self,
+        attrs: Vec<Attribute<Node>>,
+        tree: &Tree<'_>,
+    ) -> Result<Node, AllocError> {
+        (self.pattern)(self.alloc, attrs, tree)
+    }
+
+    fn statement(&self, tree: &Tree<'_>) -> Result<Stmt<Node>, AllocError> {
+        (self.statement)(self.alloc, tree)
+    }
+}
+
+// An item, in a place of its own.
+#[tactic(auto, using(node_closed::proofs::Equations::view_item))]
+fn placed(alloc: Global, item: Item) -> Result<Node, AllocError>
+    ensures { IfOk result (λ x. node_view x ≡ item_view item) }
+{
+    Ok(Node::Item(Box::new(alloc, item)?))
+}
+
+#[tactic(auto, using(node_closed::proofs::Equations::items))]
+impl<
+    't,
+    'a,
+    N: Fn(Global, What, &Tree<'_>) -> Result<Node, AllocError>,
+    P: Fn(Global, Vec<Attribute<Node>>, &Tree<'_>) -> Result<Node, AllocError>,
+    S: Fn(Global, &Tree<'_>) -> Result<Stmt<Node>, AllocError>,
+> ItemMaker<Node> for Below<'t, 'a, N, P, S>
+{
+    fn of_const(&self, item: ItemConst<Node>) -> Result<Node, AllocError> {
+        placed(self.alloc, Item::Const(item))
+    }
+
+    fn of_enum(&self, item: ItemEnum<Node>) -> Result<Node, AllocError> {
+        placed(self.alloc, Item::Enum(item))
+    }
+
+    fn of_extern_crate(&self, item: ItemExternCrate<Node>) -> Result<Node, AllocError> {
+        placed(self.alloc, Item::ExternCrate(item))
+    }
+
+    fn of_fn(&self, item: ItemFn<Node>) -> Result<Node, AllocError> {
+        placed(self.alloc, Item::Fn(item))
+    }
+
+    fn of_foreign_mod(&self, item: ItemForeignMod<Node>) -> Result<Node, AllocError> {
+        placed(self.alloc, Item::ForeignMod(item))
+    }
+
+    fn of_impl(&self, item: ItemImpl<Node>) -> Result<Node, AllocError> {
+        placed(self.alloc, Item::Impl(item))
+    }
+
+    fn of_macro(&self, item: ItemMacro<Node>) -> Result<Node, AllocError> {
+        placed(self.alloc, Item::Macro(item))
+    }
+
+    fn of_mod(&self, item: ItemMod<Node>) -> Result<Node, AllocError> {
+        placed(self.alloc, Item::Mod(item))
+    }
+
+    fn of_static(&self, item: ItemStatic<Node>) -> Result<Node, AllocError> {
+        placed(self.alloc, Item::Static(item))
+    }
+
+    fn of_struct(&self, item: ItemStruct<Node>) -> Result<Node, AllocError> {
+        placed(self.alloc, Item::Struct(item))
+    }
+
+    fn of_trait(&self, item: ItemTrait<Node>) -> Result<Node, AllocError> {
+        placed(self.alloc, Item::Trait(item))
+    }
+
+    fn of_trait_alias(&self, item: ItemTraitAlias<Node>) -> Result<Node, AllocError> {
+        placed(self.alloc, Item::TraitAlias(item))
+    }
+
+    fn of_type(&self, item: ItemType<Node>) -> Result<Node, AllocError> {
+        placed(self.alloc, Item::Type(item))
+    }
+
+    fn of_union(&self, item: ItemUnion<Node>) -> Result<Node, AllocError> {
+        placed(self.alloc, Item::Union(item))
+    }
+
+    fn of_use(&self, item: ItemUse<Node>) -> Result<Node, AllocError> {
+        placed(self.alloc, Item::Use(item))
+    }
+
+    fn of_tokens(&self, tokens: TokenStream) -> Result<Node, AllocError> {
+        placed(self.alloc, Item::Verbatim(tokens))
+    }
+}
