@@ -24,8 +24,7 @@ use Rattle.node_paths.specs.declared.mac.Macro.{Macro}
 use Rattle.syn_kinds.specs.declared.delimiters.Delimiters.{Delimiters}
 use Rattle.syn_kinds.specs.declared.keyword.Keyword.{Keyword}
 use Rattle.syn_kinds.specs.declared.punctuation.Punctuation.{Punctuation}
-use Rattle.node_words.specs.Words.{◌∶◌, ◌▸◌, alternative, enclosed, judged, keyword, mark, name, name_or, optional}
-use Rattle.node_words.specs.Words.{raw}
+use Rattle.node_words.specs.Words.{◌∶◌, ◌▸◌, alternative, enclosed, judged, keyword, mark, name_or, optional, raw}
 use Rattle.node_views.specs.Data.{named}
 use Rattle.node_views.specs.Functions.{function}
 use Rattle.node_views.specs.Items.{alias_form, by_unsafety, const_form, definition, has_where, is_there, item_const}

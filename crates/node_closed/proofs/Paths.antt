@@ -39,7 +39,7 @@ use Rattle.node_paths.specs.declared.path.ReturnType.TheVariants as returns
 use Rattle.syn_kinds.specs.declared.punctuation.Punctuation.{Punctuation}
 use Rattle.syn_lists.specs.declared.punctuated.Punctuated.{Punctuated}
 use Rattle.node_words.specs.Words.{◌∶◌, ◌▸◌, absent, alternative, enclosed, expression, given, judged, keyword, last}
-use Rattle.node_words.specs.Words.{lifetime, list, mark, mark_or, name, optional, raw, turns}
+use Rattle.node_words.specs.Words.{lifetime, mark, mark_or, name, optional, raw, turns}
 use Rattle.node_views.specs.Paths.{angle_bracketed, any_path, as_trait, assoc_type, attribute, behind_trait}
 use Rattle.node_views.specs.Paths.{bound_front, bound_lifetimes, bound_list, bounds_colon, colon, delimited}
 use Rattle.node_views.specs.Paths.{generic_argument, inner, inner_attributes, inner_of, is_bare, is_keyword, is_outer}

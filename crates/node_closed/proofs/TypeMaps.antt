@@ -44,6 +44,8 @@ use Rattle.node_types.specs.declared.function.FnPtrArg.{FnPtrArg}
 use Rattle.node_types.specs.declared.function.TypeFnPtr.{TypeFnPtr}
 use Rattle.node_types.specs.declared.kinds.TypeArray.{TypeArray}
 use Rattle.node_types.specs.declared.kinds.TypeImplTrait.{TypeImplTrait}
+use Rattle.node_types.specs.declared.kinds.TypeInfer.{TypeInfer}
+use Rattle.node_types.specs.declared.kinds.TypeNever.{TypeNever}
 use Rattle.node_types.specs.declared.kinds.TypeParen.{TypeParen}
 use Rattle.node_types.specs.declared.kinds.TypePath.{TypePath}
 use Rattle.node_types.specs.declared.kinds.TypePtr.{TypePtr}
@@ -52,11 +54,11 @@ use Rattle.node_types.specs.declared.kinds.TypeSlice.{TypeSlice}
 use Rattle.node_types.specs.declared.kinds.TypeTraitObject.{TypeTraitObject}
 use Rattle.node_types.specs.declared.kinds.TypeTuple.{TypeTuple}
 use Rattle.node_types.specs.declared.«Type».{«Type» as Type'}
+use Rattle.node_types.specs.declared.«Type».TheVariants as types
 use mathlib.Core.Logic.{inl, inr}
 use Rattle.syn_kinds.specs.declared.keyword.Keyword.{Keyword}
 use Rattle.syn_kinds.specs.declared.lifetime.Lifetime.{Lifetime}
 use Rattle.syn_kinds.specs.declared.punctuation.Punctuation.{Punctuation}
-use Rattle.node_tree.specs.declared.item.Item.TheShapes as shapes
 use Rattle.node_closed.proofs.Words.{either, box_map, first_map, second_map, option_map, vec_map, punctuated_map}
 
 abbrev pub assoc_type_map : {A B : Type 0} → (A → B) → AssocType A → AssocType B
@@ -247,8 +249,49 @@ type_trait_object_map h x =
 abbrev pub type_tuple_map : {A B : Type 0} → (A → B) → TypeTuple A → TypeTuple B
 type_tuple_map h x = record { paren_token = x.paren_token; elems = punctuated_map h x.elems }
 
+abbrev pub TypeCases : Type 0 → Type 0
+TypeCases A =
+    (TypeArray A × Unit {0}) ⊎ ((TypeFnPtr A × Unit {0}) ⊎ ((TypeImplTrait A × Unit {0}) ⊎ ((TypeInfer × Unit {0}) ⊎
+    ((TypeNever × Unit {0}) ⊎ ((TypeParen A × Unit {0}) ⊎ ((TypePath A × Unit {0}) ⊎ ((TypePtr A × Unit {0}) ⊎
+    ((TypeReference A × Unit {0}) ⊎ ((TypeSlice A × Unit {0}) ⊎ ((TypeTraitObject A × Unit {0}) ⊎
+    ((TypeTuple A × Unit {0}) ⊎ ⊥)))))))))))
+
+abbrev pub type_split : {A : Type 0} → Type' A → TypeCases A
+type_split (types.Array x) = inl (x, tt)
+type_split (types.FnPtr x) = inr (inl (x, tt))
+type_split (types.ImplTrait x) = inr (inr (inl (x, tt)))
+type_split (types.Infer x) = inr (inr (inr (inl (x, tt))))
+type_split (types.Never x) = inr (inr (inr (inr (inl (x, tt)))))
+type_split (types.Paren x) = inr (inr (inr (inr (inr (inl (x, tt))))))
+type_split (types.Path x) = inr (inr (inr (inr (inr (inr (inl (x, tt)))))))
+type_split (types.Ptr x) = inr (inr (inr (inr (inr (inr (inr (inl (x, tt))))))))
+type_split (types.Reference x) = inr (inr (inr (inr (inr (inr (inr (inr (inl (x, tt)))))))))
+type_split (types.Slice x) = inr (inr (inr (inr (inr (inr (inr (inr (inr (inl (x, tt))))))))))
+type_split (types.TraitObject x) = inr (inr (inr (inr (inr (inr (inr (inr (inr (inr (inl (x, tt)))))))))))
+type_split (types.Tuple x) = inr (inr (inr (inr (inr (inr (inr (inr (inr (inr (inr (inl (x, tt))))))))))))
+
+abbrev pub type_join : {A : Type 0} → TypeCases A → Type' A
+type_join (inl x) = types.Array x.0
+type_join (inr (inl x)) = types.FnPtr x.0
+type_join (inr (inr (inl x))) = types.ImplTrait x.0
+type_join (inr (inr (inr (inl x)))) = types.Infer x.0
+type_join (inr (inr (inr (inr (inl x))))) = types.Never x.0
+type_join (inr (inr (inr (inr (inr (inl x)))))) = types.Paren x.0
+type_join (inr (inr (inr (inr (inr (inr (inl x))))))) = types.Path x.0
+type_join (inr (inr (inr (inr (inr (inr (inr (inl x)))))))) = types.Ptr x.0
+type_join (inr (inr (inr (inr (inr (inr (inr (inr (inl x))))))))) = types.Reference x.0
+type_join (inr (inr (inr (inr (inr (inr (inr (inr (inr (inl x)))))))))) = types.Slice x.0
+type_join (inr (inr (inr (inr (inr (inr (inr (inr (inr (inr (inl x))))))))))) = types.TraitObject x.0
+type_join (inr (inr (inr (inr (inr (inr (inr (inr (inr (inr (inr (inl x)))))))))))) = types.Tuple x.0
+type_join (inr (inr (inr (inr (inr (inr (inr (inr (inr (inr (inr (inr z)))))))))))) = absurd z
+
 abbrev pub type_map : {A B : Type 0} → (A → B) → Type' A → Type' B
-type_map {A} {B} = (shapes.former-Node-Type-0).map A B
+type_map h x =
+    type_join (either (first_map (type_array_map h)) (either (first_map (type_fn_ptr_map h)) (either
+    (first_map (type_impl_trait_map h)) (either (λ y. y) (either (λ y. y) (either (first_map (type_paren_map h))
+    (either (first_map (type_path_map h)) (either (first_map (type_ptr_map h)) (either
+    (first_map (type_reference_map h)) (either (first_map (type_slice_map h)) (either
+    (first_map (type_trait_object_map h)) (either (first_map (type_tuple_map h)) (λ z. z)))))))))))) (type_split x))
 
 abbrev pub const_param_map : {A B : Type 0} → (A → B) → ConstParam A → ConstParam B
 const_param_map h x =
