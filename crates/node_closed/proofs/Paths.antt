@@ -56,7 +56,7 @@ use Rattle.node_closed.proofs.TypeMaps.{parenthesized_generic_arguments_map, pat
 use Rattle.node_closed.proofs.TypeMaps.{path_segment_map, q_self_map, return_type_map, trait_bound_map}
 use Rattle.node_closed.proofs.TypeMaps.{type_param_bound_map}
 
--- literals and members
+-- the types of results
 
 pub return_type_mapped :
     {A : Type 0} (h : A → Tree) (x : ReturnType A)
