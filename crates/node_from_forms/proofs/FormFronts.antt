@@ -9,15 +9,20 @@ use Rattle.syn_grammar.specs.Name.{the_indices, the_value}
 use Rattle.syn_grammar.specs.Tree as t
 use Rattle.syn_grammar.specs.Tree.{Tree, ALiteral, Called, Pair, Second}
 use Rattle.syn_grammar.specs.Words.{before_dot, behind_dots, texts_of}
+use Rattle.node_expressions.specs.declared.expr.Expr.{Expr}
 use Rattle.node_paths.specs.declared.attribute.Attribute.{Attribute}
 use Rattle.node_shapes.specs.Forms.{begins_attributed}
 use Rattle.node_shapes.specs.Shape.{AreForms}
 use Rattle.node_take.specs.Forms.{before_kind}
 use Rattle.node_take.specs.declared.form.Before.{Before}
 use Rattle.node_take.specs.declared.form.Before.TheVariants as befores
-use Rattle.node_views.specs.Paths.{attribute, outer}
+use Rattle.node_take.specs.declared.form.Between.{Between}
+use Rattle.node_take.specs.declared.form.Between.TheVariants as betweens
+use Rattle.node_views.specs.Expressions.{expr}
+use Rattle.node_views.specs.Paths.{attribute, inner_of, outer}
 use Rattle.node_views.specs.Statements.{attributed, behind_outer}
 use Rattle.node_words.specs.Words.{turns}
+use Rattle.node_from_bodies.specs.Operands.{is_range}
 use Rattle.node_from_parts.proofs.InFront.{inner_in_front, outer_in_front}
 use Rattle.node_from_forms.specs.Fronts.{gives_attributes, is_bare}
 
@@ -37,6 +42,19 @@ put_before f fs xs zs y z e h d =
     ap (attributed f zs) d ∙ ap (λ us. attributed f us y) e
     ∙ ap (λ us. behind_outer (turns (attribute f) us) y) (outer_in_front fs xs n)
     ∙ ap (λ us. behind_outer (turns (attribute f) (outer fs)) (behind_outer (turns (attribute f) us) y)) (sym n)
+
+-- what stands within it does so all the same
+pub inside_front : {E : Type 0} (fs xs zs : List (Attribute E)) → zs ≡ fs ++ xs → inner_of fs ≡ []
+    → inner_of zs ≡ inner_of xs
+inside_front fs xs zs e h = ap inner_of e ∙ inner_in_front fs xs h
+
+-- of a form, whatever else it has
+pub front_put : {E : Type 0} (f : E → Tree) (fs xs zs : List (Attribute E)) (y z : Tree) (o n : Expr E)
+    → zs ≡ fs ++ xs → is_bare (expr f o) ≡ true → expr f o ≡ attributed f xs y → expr f n ≡ attributed f zs z → z ≡ y
+    → expr f n ≡ behind_outer (turns (attribute f) (outer fs)) (expr f o)
+front_put f fs xs zs y z o n e h p q d =
+    q ∙ put_before f fs xs zs y z e (sym (ap is_bare p) ∙ h) d
+    ∙ ap (behind_outer (turns (attribute f) (outer fs))) (sym p)
 
 pub ruleset fronts = (put_before, inner_in_front)
 
@@ -83,3 +101,14 @@ put_there x y a o z e d h = e ∙ ap (behind_outer a) d ∙ h z
 pub ruleset attributes = (kept_bare, put_there)
 
 pub ruleset plain = (gives_none)
+
+pub no_attributes : (i : Before) → (i ≡ befores.Attributed → ⊥) → gives_attributes i ≡ false
+no_attributes befores.Attributed d = absurd (d refl)
+no_attributes _ d = refl
+
+-- neither of the ranges
+
+pub no_range : (i : Between) → (i ≡ betweens.Range → ⊥) → (i ≡ betweens.RangeClosed → ⊥) → is_range i ≡ false
+no_range betweens.Range d e = absurd (d refl)
+no_range betweens.RangeClosed d e = absurd (e refl)
+no_range _ d e = refl

@@ -1,7 +1,9 @@
 pub mod ArmCommas
 pub mod BlockForms
+pub mod DottedForms
 pub mod FieldTexts
 pub mod FieldValues
 pub mod FormFronts
 pub mod Names
+pub mod Parts
 pub mod TypedClosures
