@@ -1,4 +1,5 @@
--- What a node and an item are as trees, by each variant: the view of what it holds, by that of the nodes in it.
+-- What a node and an item are as trees, by each variant: the view of what it holds, by that of the nodes in it. The fold
+-- gives the view of what is mapped, of which the law of that view says the rest.
 use Rattle.std.specs.declared.alloc.Global.{Global}
 use Rattle.std.specs.declared.boxed.Box.{Box}
 use Rattle.std.specs.Prelude.{◌≡◌, List}

@@ -258,8 +258,8 @@ pub closure_head_mapped :
 closure_head_mapped h x =
     λ i. optional_mapped (bound_lifetimes_map h) (bound_lifetimes h) (bound_lifetimes (λ y. y))
     (bound_lifetimes_mapped h) x.lifetimes i ▸ optional keyword x.constness ▸ optional keyword x.movability
-    ▸ optional keyword x.asyncness ▸ optional keyword x.capture ▸ mark x.or1_token ▸ listed_mapped 44 h (λ y.
-    closure_param (h y)) (λ y. closure_param y) (λ y. refl) (values x.inputs) (separators x.inputs) i ▸ mark
+    ▸ optional keyword x.asyncness ▸ optional keyword x.capture ▸ mark x.or1_token ▸ listed_mapped 44 h
+    (λ y. closure_param (h y)) (λ y. closure_param y) (λ y. refl) (values x.inputs) (separators x.inputs) i ▸ mark
     x.or2_token
 
 pub closure_mapped :
