@@ -1,17 +1,83 @@
-use Rattle.std.specs.Prelude.{Some}
-use Rattle.std.proofs.Common.{◌≡◌, ◌<◌, ◌≤◌, ◌+◌, ◌++◌, ◌∷◌, [], ◌∙◌, ap}
-use Rattle.std.proofs.Common.{arith, drop, length, subst, suc, sym}
+use Rattle.std.specs.Prelude.{Some, refl}
+use Rattle.std.proofs.Common.{◌≡◌, ◌<◌, ◌≤◌, ◌+◌, ◌++◌, ◌∷◌, [], ◌∙◌, ap, arith, drop, length, subst, suc, sym}
 use Rattle.syn_grammar.specs.Gram.{ref}
-use Rattle.syn_grammar.specs.Kept.{kept}
+use Rattle.syn_grammar.specs.Kept.{kept, held}
 use Rattle.syn_grammar.specs.Kind as k
+use Rattle.syn_grammar.specs.Tree as t
+use Rattle.node_take.proofs.Keeps.{pair_kept}
+use Rattle.node_words.specs.Words.{all_listed, enclosed}
+use Rattle.node_views.specs.Imports.{use_tree, use_branch, use_name}
+use Rattle.node_from.proofs.Joined.{first_of_two, second_of_two}
+use Rattle.node_from_items.specs.Imports.{behind_name}
+use Rattle.node_from_items.proofs.FileForms.{made_other}
+use Rattle.node_from_items.proofs.Fronts.{chosen_at, chosen_is}
+use Rattle.node_from_items.proofs.ImportMade.{path_made, name_made, rename_made, glob_made, group_made, nothing_kept}
 use Rattle.syn_grammar.specs.Tree.{Tree}
 use denote.Bor.{Bor}
 use Rattle.reader_tree.specs.Forms.{elements, ending}
-use Rattle.node_views.specs.Imports.{use_tree}
-use Rattle.node_words.specs.Words.{all_listed}
 use Rattle.node_take.proofs.Lists.{element_put, element_shaped, element_fewer, length_more, listed_is, no_last}
 use Rattle.node_take.proofs.Lists.{one_last}
 use Rattle.node_from_items.proofs.imports.+importing.Goals as goal
+
+pub named-returns-in_ok-new-in-0 : goal.named-returns-in_ok-new-in-0
+named-returns-in_ok-new-in-0 t c =
+    path_made (record { ident = c.args.ident; colon2_token = c.sign.result; tree = c.in_ok-new-in-0.field-0 })
+    ∙ ap (λ y. use_branch (t.Second (t.Pair (use_name c.args.ident) y))) (ap t.First (pair_kept _ _ _ _ _
+    c.pair.ensures
+    c.sign.ensures (ap use_tree c.in_ok-new-in-0.ensures.ok ∙ c.in_ok-tree-in-0.ensures)) ∙ sym (ap kept (chosen_is
+    2 _ 0 _ c.alternative-which.result.1.now c.alternative-which.ensures.chosen c.in-0.is)))
+
+pub named-returns-in_ok-rename-in-1 : goal.named-returns-in_ok-rename-in-1
+named-returns-in_ok-rename-in-1 t c =
+    rename_made (record { ident = c.args.ident; as_token = c.keyword.result; rename = c.in_ok-rename-in-1.rename })
+    ∙ ap (λ y. use_branch (t.Second (t.Pair (use_name c.args.ident) y))) (ap (λ y. t.Second (t.First y)) (pair_kept
+    _ _ _ _ _
+    c.pair-in-1.ensures c.keyword.ensures c.in_ok-rename-in-1.ensures) ∙ sym (ap kept (chosen_is 2 _ 1 _
+    c.alternative-which.result.1.now c.alternative-which.ensures.chosen c.in-1.is)))
+
+pub named-returns-in_default : goal.named-returns-in_default
+named-returns-in_default t c =
+    let o = c.alternative-which.result.1.now in
+    let i : c.alternative-which.result.0 ≡ 2 = omega arith in
+    name_made (record { ident = c.args.ident })
+    ∙ ap (λ y. use_branch (t.Second (t.Pair (use_name c.args.ident) y)))
+    (ap (λ y. t.Second (t.Second y)) (sym (nothing_kept o (chosen_at 2 _ 2 _ o behind_name c.requires
+    c.alternative-which.ensures.chosen i))) ∙ sym (ap kept (chosen_is 2 _ 2 _ o c.alternative-which.ensures.chosen
+    i)))
+
+pub branch-returns-in-0-default : goal.branch-returns-in-0-default
+unfolding held
+branch-returns-in-0-default t c =
+    let e : c.node.result.now ≡ t.First c.alternative.result.1.now = cc (first_of_two c.alternative.result.1.now) in
+    glob_made (record { star_token = c.sign.result })
+    ∙ ap (λ y. t.Node k.UseTree (t.Second y)) (ap (λ y. t.Node k.UseBranch (t.First y)) c.sign.ensures
+    ∙ sym (ap kept (c.node.ensures.node ∙ ap (t.Node k.UseBranch) e)))
+
+pub branch-returns-in_ok-use_name-in_default : goal.branch-returns-in_ok-use_name-in_default
+unfolding held
+branch-returns-in_ok-use_name-in_default t c =
+    let n : c.alternative.result.0 ≡ 1 = omega arith in
+    let e : c.node.result.now ≡ t.Second c.alternative.result.1.now = cc (second_of_two c.alternative.result.1.now) in
+    made_other c.named.result use_tree _ _ c.named.ensures
+    (ap (λ y. use_branch (t.Second y)) (pair_kept _ _ _ _ _ c.pair.ensures c.in_ok-use_name-in_default.ensures refl)
+    ∙ ap (λ y. t.Node k.UseTree (t.Second y)) (sym (ap kept (c.node.ensures.node ∙ ap (t.Node k.UseBranch) e))))
+
+pub use_tree-returns-in_ok-items-in-0-default : goal.use_tree-returns-in_ok-items-in-0-default
+unfolding held
+use_tree-returns-in_ok-items-in-0-default t c =
+    let e : c.node.result.now ≡ t.First c.alternative.result.1.now = cc (first_of_two c.alternative.result.1.now) in
+    let d = c.group.result.0 in
+    group_made (record { brace_token = d; items = c.in_ok-items-in-0-default.items })
+    ∙ ap (λ y. t.Node k.UseTree (t.First (enclosed d y))) c.in_ok-items-in-0-default.ensures
+    ∙ sym (ap kept (c.node.ensures.node ∙ ap (t.Node k.UseTree) (e ∙ ap t.First c.group.ensures)))
+
+pub use_tree-returns-in_default : goal.use_tree-returns-in_default
+unfolding held
+use_tree-returns-in_default t c =
+    let n : c.alternative.result.0 ≡ 1 = omega arith in
+    let e : c.node.result.now ≡ t.Second c.alternative.result.1.now = cc (second_of_two c.alternative.result.1.now) in
+    made_other c.branch.result use_tree _ _ c.branch.ensures
+    (sym (ap kept (c.node.ensures.node ∙ ap (t.Node k.UseTree) e)))
 
 pub use_trees-loop-element-preserved : goal.use_trees-loop-element-preserved
 use_trees-loop-element-preserved t c =

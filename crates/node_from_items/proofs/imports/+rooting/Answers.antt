@@ -1,21 +1,51 @@
 use Rattle.std.specs.Prelude.{Some, false}
-use Rattle.std.proofs.Common.{◌≡◌, ◌<◌, ◌≤◌, ◌+◌, ◌++◌, ◌∷◌, [], ◌∙◌, ap}
-use Rattle.std.proofs.Common.{arith, drop, length, subst, suc, sym}
+use Rattle.std.proofs.Common.{◌≡◌, ◌<◌, ◌≤◌, ◌+◌, ◌++◌, ◌∷◌, [], ◌∙◌, ap, arith, drop, length, subst, suc, sym}
 use Rattle.std.proofs.lemmas.Bool.{false≢true}
+use Rattle.std.proofs.lemmas.Result.{IfOk-weaker}
 use Rattle.syn_grammar.specs.Gram.{ref}
-use Rattle.syn_grammar.specs.Kept.{kept}
+use Rattle.syn_grammar.specs.Kept.{kept, held}
 use Rattle.syn_grammar.specs.Kind as k
-use Rattle.syn_grammar.specs.Tree.{Tree, First, Node}
+use Rattle.syn_grammar.specs.Tree as t
 use Rattle.syn_grammar.specs.Verdicts.{has_root}
+use Rattle.node_words.specs.Words.{all_listed, enclosed}
+use Rattle.node_views.specs.Imports.{use_tree, rooted}
+use Rattle.node_from.proofs.Joined.{first_of_two, second_of_two}
+use Rattle.node_from_items.specs.Imports.{top, whole}
+use Rattle.node_from_items.proofs.ImportMade.{group_made}
+use Rattle.syn_grammar.specs.Tree.{Tree, First, Node}
 use denote.Bor.{Bor}
 use Rattle.reader_tree.specs.Forms.{elements, ending}
-use Rattle.node_words.specs.Words.{all_listed}
 use Rattle.node_take.proofs.Lists.{element_put, element_shaped, element_fewer, length_more, listed_is, no_last}
 use Rattle.node_take.proofs.Lists.{one_last}
-use Rattle.node_from.proofs.Joined.{first_of_two}
-use Rattle.node_from_items.specs.Imports.{top}
 use Rattle.node_from_items.proofs.ImportLists.{element_rootless, tops_listed}
 use Rattle.node_from_items.proofs.imports.+rooting.Goals as goal
+
+pub top-returns : goal.top-returns
+unfolding held
+top-returns t c =
+    let n : c.alternative.result.0 ≡ 1 = omega arith in
+    let e : c.node.result.now ≡ t.Second c.alternative.result.1.now = cc (second_of_two c.alternative.result.1.now) in
+    IfOk-weaker c.use_rooted.result (λ x. rooted (use_tree x) ≡ kept c.alternative.result.1.now)
+    (λ x. top x ≡ kept c.args.tree.now) (λ x h. ap (λ y. t.Node k.UseTop (t.Second y)) h
+    ∙ sym (ap kept (c.node.ensures.node ∙ ap (t.Node k.UseTop) e))) c.use_rooted.ensures
+
+pub use_rooted-returns-in_ok-items-in-0-default : goal.use_rooted-returns-in_ok-items-in-0-default
+unfolding held
+use_rooted-returns-in_ok-items-in-0-default t c =
+    let e : c.node.result.now ≡ t.First c.alternative.result.1.now = cc (first_of_two c.alternative.result.1.now) in
+    let d = c.group.result.0 in
+    ap rooted (group_made (record { brace_token = d; items = c.in_ok-items-in-0-default.items }))
+    ∙ ap (λ y. t.Node k.UseRooted (t.First (enclosed d y))) c.in_ok-items-in-0-default.ensures
+    ∙ sym (ap kept (c.node.ensures.node ∙ ap (t.Node k.UseRooted) (e ∙ ap t.First c.group.ensures)))
+
+pub use_rooted-returns-in_default : goal.use_rooted-returns-in_default
+unfolding held
+use_rooted-returns-in_default t c =
+    let n : c.alternative.result.0 ≡ 1 = omega arith in
+    let e : c.node.result.now ≡ t.Second c.alternative.result.1.now = cc (second_of_two c.alternative.result.1.now) in
+    IfOk-weaker c.branch.result (λ x. use_tree x ≡ whole (kept c.alternative.result.1.now))
+    (λ x. rooted (use_tree x) ≡ kept c.args.tree.now) (λ x h. ap rooted h
+    ∙ sym (ap kept (c.node.ensures.node ∙ ap (t.Node k.UseRooted) e))) c.branch.ensures
 
 pub tops-loop-element-preserved : goal.tops-loop-element-preserved
 tops-loop-element-preserved t c =

@@ -1,15 +1,46 @@
 use Rattle.std.specs.Prelude.{refl}
-use Rattle.std.proofs.Common.{ap, subst}
+use Rattle.std.proofs.Common.{ap, subst, arith}
 use Rattle.syn_grammar.specs.Gram.{called}
 use Rattle.syn_grammar.specs.Kind as k
 use Rattle.syn_grammar.specs.Lists.{item_form}
 use Rattle.syn_grammar.specs.Name.{the_item}
 use Rattle.syn_grammar.specs.Tree as t
+use Rattle.reader_tree.specs.Size.{node_count}
 use Rattle.node_shapes.specs.Shape.{IsShaped}
 use Rattle.node_from_items.specs.Dispatch.{item_parts}
 use Rattle.node_from_items.proofs.FileForms.{item_fewer, item_kept, item_number, item_parted, item_shape}
 use Rattle.node_from_items.proofs.FileForms.{item_verdict_of, made_other}
+use Rattle.node_from_items.proofs.Pieces.{seq_parts}
 use Rattle.node_from_items.proofs.item.kept_item.Goals as goal
+
+pub three-requires : goal.three-requires
+three-requires g c = (item_parts, refl, c.requires.shaped)
+
+pub what_stands_in_front-requires-clause-ready : goal.what_stands_in_front-requires-clause-ready
+what_stands_in_front-requires-clause-ready g c = c.requires.ready
+
+pub what_stands_in_front-requires-clause-attributes : goal.what_stands_in_front-requires-clause-attributes
+what_stands_in_front-requires-clause-attributes g c = (seq_parts item_parts c.three.ensures c.requires.shaped).0
+
+pub what_stands_in_front-requires-clause-visibility : goal.what_stands_in_front-requires-clause-visibility
+what_stands_in_front-requires-clause-visibility g c = (seq_parts item_parts c.three.ensures c.requires.shaped).1.0
+
+pub what_stands_in_front-requires-clause-attributes_fewer : goal.what_stands_in_front-requires-clause-attributes_fewer
+what_stands_in_front-requires-clause-attributes_fewer g c =
+    omega (arith, ap node_count c.three.ensures, c.requires.fewer)
+
+pub what_stands_in_front-requires-clause-visibility_fewer : goal.what_stands_in_front-requires-clause-visibility_fewer
+what_stands_in_front-requires-clause-visibility_fewer g c =
+    omega (arith, ap node_count c.three.ensures, c.requires.fewer)
+
+pub called-requires : goal.called-requires
+called-requires g c = (_, _, (seq_parts item_parts c.three.ensures c.requires.shaped).1.1)
+
+pub chosen_item-requires-clause-ready : goal.chosen_item-requires-clause-ready
+chosen_item-requires-clause-ready g c = c.requires.ready
+
+pub chosen_item-requires-clause-none_inside : goal.chosen_item-requires-clause-none_inside
+chosen_item-requires-clause-none_inside g c = c.in_ok-front.ensures.none_inside
 
 pub alternative-which-requires : goal.alternative-which-requires
 alternative-which-requires g c = (

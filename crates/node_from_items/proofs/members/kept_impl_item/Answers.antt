@@ -1,14 +1,90 @@
-use Rattle.std.specs.Prelude.{refl}
-use Rattle.std.proofs.Common.{◌∙◌, ap, subst}
+use Rattle.std.specs.Prelude.{refl, ◌≡◌}
+use Rattle.std.proofs.Common.{◌∙◌, ap, subst, arith}
 use Rattle.syn_grammar.specs.Gram.{called}
 use Rattle.syn_grammar.specs.Kind as k
 use Rattle.syn_grammar.specs.Name.{the_item}
 use Rattle.syn_grammar.specs.Tree as t
+use Rattle.reader_tree.specs.Size.{node_count}
 use Rattle.node_shapes.specs.Shape.{IsShaped}
 use Rattle.node_from_items.specs.Dispatch.{member_form, member_parts}
+use Rattle.node_from_items.proofs.Fronts.{chosen_at, chosen_is, other_test}
+use Rattle.node_from_items.proofs.Pieces.{seq_parts, called_shaped}
 use Rattle.node_from_items.proofs.MemberForms.{impl_front, member_kept}
 use Rattle.node_from_items.proofs.Verdicts.{impl_alias, impl_constant, impl_function, impl_macro, member_arm}
+use Rattle.node_take.proofs.Takes.{shaped_never}
 use Rattle.node_from_items.proofs.members.kept_impl_item.Goals as goal
+
+pub four-requires : goal.four-requires
+four-requires g c = (member_parts k.InImpl, refl, c.requires.shaped)
+
+pub what_stands_in_front-requires-clause-ready : goal.what_stands_in_front-requires-clause-ready
+what_stands_in_front-requires-clause-ready g c = c.requires.ready
+
+pub what_stands_in_front-requires-clause-attributes : goal.what_stands_in_front-requires-clause-attributes
+what_stands_in_front-requires-clause-attributes g c =
+    (seq_parts (member_parts k.InImpl) c.four.ensures c.requires.shaped).0
+
+pub what_stands_in_front-requires-clause-visibility : goal.what_stands_in_front-requires-clause-visibility
+what_stands_in_front-requires-clause-visibility g c =
+    (seq_parts (member_parts k.InImpl) c.four.ensures c.requires.shaped).1.0
+
+pub what_stands_in_front-requires-clause-attributes_fewer : goal.what_stands_in_front-requires-clause-attributes_fewer
+what_stands_in_front-requires-clause-attributes_fewer g c =
+    omega (arith, ap node_count c.four.ensures, c.requires.fewer)
+
+pub what_stands_in_front-requires-clause-visibility_fewer : goal.what_stands_in_front-requires-clause-visibility_fewer
+what_stands_in_front-requires-clause-visibility_fewer g c =
+    omega (arith, ap node_count c.four.ensures, c.requires.fewer)
+
+pub defaultness-word-requires : goal.defaultness-word-requires
+defaultness-word-requires g c =
+    other_test _ _ _ _ _ (seq_parts (member_parts k.InImpl) c.four.ensures c.requires.shaped).1.1.0
+
+pub called-requires : goal.called-requires
+called-requires g c = (_, _, (seq_parts (member_parts k.InImpl) c.four.ensures c.requires.shaped).1.1.1)
+
+pub impl_item_fn-requires-clause-ready : goal.impl_item_fn-requires-clause-ready
+impl_item_fn-requires-clause-ready g c = c.requires.ready
+
+pub impl_item_fn-requires-clause-fewer : goal.impl_item_fn-requires-clause-fewer
+impl_item_fn-requires-clause-fewer g c =
+    omega (arith, ap node_count c.four.ensures, ap node_count c.called.ensures.1, ap node_count (chosen_is 4 _ 0 _
+    c.alternative-which.result.1.now c.alternative-which.ensures.chosen c.in-0.is), c.requires.fewer)
+
+pub impl_item_fn-requires-clause-none_inside : goal.impl_item_fn-requires-clause-none_inside
+impl_item_fn-requires-clause-none_inside g c = c.in_ok-front.ensures.none_inside
+
+pub impl_item_const-requires-clause-ready : goal.impl_item_const-requires-clause-ready
+impl_item_const-requires-clause-ready g c = c.requires.ready
+
+pub impl_item_const-requires-clause-fewer : goal.impl_item_const-requires-clause-fewer
+impl_item_const-requires-clause-fewer g c =
+    omega (arith, ap node_count c.four.ensures, ap node_count c.called.ensures.1, ap node_count (chosen_is 4 _ 1 _
+    c.alternative-which.result.1.now c.alternative-which.ensures.chosen c.in-1.is), c.requires.fewer)
+
+pub impl_item_type-requires-clause-ready : goal.impl_item_type-requires-clause-ready
+impl_item_type-requires-clause-ready g c = c.requires.ready
+
+pub impl_item_type-requires-clause-fewer : goal.impl_item_type-requires-clause-fewer
+impl_item_type-requires-clause-fewer g c =
+    omega (arith, ap node_count c.four.ensures, ap node_count c.called.ensures.1, ap node_count (chosen_is 4 _ 2 _
+    c.alternative-which.result.1.now c.alternative-which.ensures.chosen c.in-2.is), c.requires.fewer)
+
+pub impl_item_macro-requires-clause-ready : goal.impl_item_macro-requires-clause-ready
+impl_item_macro-requires-clause-ready g c = c.requires.ready
+
+pub impl_item_macro-requires-clause-fewer : goal.impl_item_macro-requires-clause-fewer
+impl_item_macro-requires-clause-fewer g c =
+    omega (arith, ap node_count c.four.ensures, ap node_count c.called.ensures.1, ap node_count (chosen_is 4 _ 3 _
+    c.alternative-which.result.1.now c.alternative-which.ensures.chosen c.in-3.is), c.requires.fewer)
+
+pub unreachable-requires : goal.unreachable-requires
+unreachable-requires g c =
+    let i : c.alternative-which.result.0 ≡ 4 = omega arith in
+    shaped_never _ (chosen_at 4 _ 4 _ c.alternative-which.result.1.now (member_form k.InImpl) (called_shaped
+    the_item (member_form k.InImpl) _ _ (seq_parts (member_parts k.InImpl) c.four.ensures c.requires.shaped).1.1.1
+    c.called.ensures)
+    c.alternative-which.ensures.chosen i)
 
 pub alternative-which-requires : goal.alternative-which-requires
 alternative-which-requires g c = (

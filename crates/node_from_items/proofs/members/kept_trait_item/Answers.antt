@@ -1,14 +1,76 @@
-use Rattle.std.specs.Prelude.{refl}
-use Rattle.std.proofs.Common.{◌∙◌, ap, subst}
+use Rattle.std.specs.Prelude.{refl, ◌≡◌}
+use Rattle.std.proofs.Common.{◌∙◌, ap, subst, arith}
 use Rattle.syn_grammar.specs.Gram.{called}
 use Rattle.syn_grammar.specs.Kind as k
 use Rattle.syn_grammar.specs.Name.{the_item}
 use Rattle.syn_grammar.specs.Tree as t
+use Rattle.reader_tree.specs.Size.{node_count}
 use Rattle.node_shapes.specs.Shape.{IsShaped}
 use Rattle.node_from_items.specs.Dispatch.{member_form, member_parts}
+use Rattle.node_from_items.proofs.Fronts.{chosen_at, chosen_is}
+use Rattle.node_from_items.proofs.Pieces.{seq_parts, called_shaped}
 use Rattle.node_from_items.proofs.MemberForms.{member_kept, trait_front}
 use Rattle.node_from_items.proofs.Verdicts.{member_arm, trait_constant, trait_unmarked}
+use Rattle.node_take.proofs.Takes.{shaped_never}
 use Rattle.node_from_items.proofs.members.kept_trait_item.Goals as goal
+
+pub four-requires : goal.four-requires
+four-requires g c = (member_parts k.InTrait, refl, c.requires.shaped)
+
+pub outer_attributes-requires-clause-ready : goal.outer_attributes-requires-clause-ready
+outer_attributes-requires-clause-ready g c = c.requires.ready
+
+pub outer_attributes-requires-clause-shaped : goal.outer_attributes-requires-clause-shaped
+outer_attributes-requires-clause-shaped g c = (seq_parts (member_parts k.InTrait) c.four.ensures c.requires.shaped).0
+
+pub outer_attributes-requires-clause-fewer : goal.outer_attributes-requires-clause-fewer
+outer_attributes-requires-clause-fewer g c = omega (arith, ap node_count c.four.ensures, c.requires.fewer)
+
+pub called-requires : goal.called-requires
+called-requires g c = (_, _, (seq_parts (member_parts k.InTrait) c.four.ensures c.requires.shaped).1.1.1)
+
+pub trait_item_fn-requires-clause-ready : goal.trait_item_fn-requires-clause-ready
+trait_item_fn-requires-clause-ready g c = c.requires.ready
+
+pub trait_item_fn-requires-clause-fewer : goal.trait_item_fn-requires-clause-fewer
+trait_item_fn-requires-clause-fewer g c =
+    omega (arith, ap node_count c.four.ensures, ap node_count c.called.ensures.1, ap node_count (chosen_is 4 _ 0 _
+    c.alternative-which.result.1.now c.alternative-which.ensures.chosen c.in-0.is), c.requires.fewer)
+
+pub trait_item_fn-requires-clause-none_inside : goal.trait_item_fn-requires-clause-none_inside
+trait_item_fn-requires-clause-none_inside g c = c.in_ok-attrs.ensures.none_inside
+
+pub trait_item_const-requires-clause-ready : goal.trait_item_const-requires-clause-ready
+trait_item_const-requires-clause-ready g c = c.requires.ready
+
+pub trait_item_const-requires-clause-fewer : goal.trait_item_const-requires-clause-fewer
+trait_item_const-requires-clause-fewer g c =
+    omega (arith, ap node_count c.four.ensures, ap node_count c.called.ensures.1, ap node_count (chosen_is 4 _ 1 _
+    c.alternative-which.result.1.now c.alternative-which.ensures.chosen c.in-1.is), c.requires.fewer)
+
+pub trait_item_type-requires-clause-ready : goal.trait_item_type-requires-clause-ready
+trait_item_type-requires-clause-ready g c = c.requires.ready
+
+pub trait_item_type-requires-clause-fewer : goal.trait_item_type-requires-clause-fewer
+trait_item_type-requires-clause-fewer g c =
+    omega (arith, ap node_count c.four.ensures, ap node_count c.called.ensures.1, ap node_count (chosen_is 4 _ 2 _
+    c.alternative-which.result.1.now c.alternative-which.ensures.chosen c.in-2.is), c.requires.fewer)
+
+pub trait_item_macro-requires-clause-ready : goal.trait_item_macro-requires-clause-ready
+trait_item_macro-requires-clause-ready g c = c.requires.ready
+
+pub trait_item_macro-requires-clause-fewer : goal.trait_item_macro-requires-clause-fewer
+trait_item_macro-requires-clause-fewer g c =
+    omega (arith, ap node_count c.four.ensures, ap node_count c.called.ensures.1, ap node_count (chosen_is 4 _ 3 _
+    c.alternative-which.result.1.now c.alternative-which.ensures.chosen c.in-3.is), c.requires.fewer)
+
+pub unreachable-requires : goal.unreachable-requires
+unreachable-requires g c =
+    let i : c.alternative-which.result.0 ≡ 4 = omega arith in
+    shaped_never _ (chosen_at 4 _ 4 _ c.alternative-which.result.1.now (member_form k.InTrait) (called_shaped
+    the_item (member_form k.InTrait) _ _ (seq_parts (member_parts k.InTrait) c.four.ensures c.requires.shaped).1.1.1
+    c.called.ensures)
+    c.alternative-which.ensures.chosen i)
 
 pub alternative-which-requires : goal.alternative-which-requires
 alternative-which-requires g c = (
