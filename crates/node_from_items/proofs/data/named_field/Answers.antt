@@ -4,7 +4,6 @@ use Rattle.syn_grammar.specs.Kept.{held, kept}
 use Rattle.syn_grammar.specs.Kind as k
 use Rattle.syn_grammar.specs.Table.{table}
 use Rattle.syn_grammar.specs.Tree as t
-use Rattle.syn_kinds.specs.Table.{marks, sign}
 use Rattle.reader_tree.specs.Size.{node_count}
 use Rattle.node_take.proofs.Keeps.{six_kept}
 use Rattle.node_from.proofs.Chosen.{same_underscore}
@@ -55,12 +54,7 @@ optional_value-requires-clause-fewer g c =
 pub name_or-requires : goal.name_or-requires
 unfolding table
 name_or-requires g c =
-    (_, (_, (_, (parts k.NamedField c.six.ensures c.node-inner.ensures.shaped).1.1.0)))
-
-pub sign-requires : goal.sign-requires
-unfolding table marks sign
-sign-requires g c =
-    (parts k.NamedField c.six.ensures c.node-inner.ensures.shaped).1.1.1.0
+    (_, _, _, (parts k.NamedField c.six.ensures c.node-inner.ensures.shaped).1.1.0)
 
 pub returns : goal.returns
 unfolding held table
