@@ -3,7 +3,11 @@ use Rattle.std.proofs.Common.{◌≡◌, ◌<◌, ◌≤◌, ◌+◌, ◌++◌, 
 use Rattle.syn_grammar.specs.Gram.{ref}
 use Rattle.syn_grammar.specs.Kept.{kept, held}
 use Rattle.syn_grammar.specs.Kind as k
+use Rattle.syn_grammar.specs.Table.{table}
 use Rattle.syn_grammar.specs.Tree as t
+use Rattle.syn_kinds.specs.Table.{word}
+use Rattle.syn_kinds.specs.Table as signs
+use Rattle.reader_tree.specs.Size.{node_count}
 use Rattle.node_take.proofs.Keeps.{pair_kept}
 use Rattle.node_words.specs.Words.{all_listed, enclosed}
 use Rattle.node_views.specs.Imports.{use_tree, use_branch, use_name}
@@ -12,6 +16,7 @@ use Rattle.node_from_items.specs.Imports.{behind_name}
 use Rattle.node_from_items.proofs.FileForms.{made_other}
 use Rattle.node_from_items.proofs.Fronts.{chosen_at, chosen_is}
 use Rattle.node_from_items.proofs.ImportMade.{path_made, name_made, rename_made, glob_made, group_made, nothing_kept}
+use Rattle.node_from_items.proofs.Pieces.{seq_parts}
 use Rattle.syn_grammar.specs.Tree.{Tree}
 use denote.Bor.{Bor}
 use Rattle.reader_tree.specs.Forms.{elements, ending}
@@ -19,8 +24,113 @@ use Rattle.node_take.proofs.Lists.{element_put, element_shaped, element_fewer, l
 use Rattle.node_take.proofs.Lists.{one_last}
 use Rattle.node_from_items.proofs.imports.+importing.Goals as goal
 
+pub named-alternative-which-requires : goal.named-alternative-which-requires
+named-alternative-which-requires m c = (behind_name, refl, c.requires)
+
+pub named-pair-requires : goal.named-pair-requires
+named-pair-requires m c =
+    (_, _, (chosen_at 2 _ 0 _ _ behind_name c.requires c.alternative-which.ensures.chosen c.in-0.is))
+
+pub named-use_tree-requires : goal.named-use_tree-requires
+named-use_tree-requires m c =
+    (omega (arith, c.decreases, ap node_count (chosen_is 2 _ 0 _ c.alternative-which.result.1.now
+    c.alternative-which.ensures.chosen c.in-0.is), ap node_count c.pair.ensures), (seq_parts _ c.pair.ensures
+    (chosen_at 2 _ 0 _ _ behind_name c.requires c.alternative-which.ensures.chosen c.in-0.is)).1)
+
+pub named-sign-requires : goal.named-sign-requires
+unfolding signs.marks signs.sign
+named-sign-requires m c =
+    (omega arith, (seq_parts _ c.pair.ensures (chosen_at 2 _ 0 _ _ behind_name c.requires
+    c.alternative-which.ensures.chosen c.in-0.is)).0)
+
+pub named-pair-requires-in-1 : goal.named-pair-requires-in-1
+named-pair-requires-in-1 m c =
+    (_, _, (chosen_at 2 _ 1 _ _ behind_name c.requires c.alternative-which.ensures.chosen c.in-1.is))
+
+pub named-other_name-requires : goal.named-other_name-requires
+named-other_name-requires m c =
+    (seq_parts _ c.pair-in-1.ensures (chosen_at 2 _ 1 _ _ behind_name c.requires c.alternative-which.ensures.chosen
+    c.in-1.is)).1
+
+pub named-keyword-requires : goal.named-keyword-requires
+unfolding word
+named-keyword-requires m c =
+    (omega arith, (seq_parts _ c.pair-in-1.ensures (chosen_at 2 _ 1 _ _ behind_name c.requires
+    c.alternative-which.ensures.chosen c.in-1.is)).0)
+
+pub branch-node-requires : goal.branch-node-requires
+branch-node-requires m c = c.requires
+
+pub branch-alternative-requires : goal.branch-alternative-requires
+unfolding table
+branch-alternative-requires m c = (table k.UseBranch, refl, c.node.ensures.shaped)
+
+pub branch-sign-requires : goal.branch-sign-requires
+unfolding table signs.marks signs.sign
+branch-sign-requires m c =
+    let e : c.node.result.now ≡ t.First c.alternative.result.1.now = cc (first_of_two c.alternative.result.1.now) in
+    (omega arith, (seq_parts (table k.UseBranch) e c.node.ensures.shaped))
+
+pub branch-pair-requires : goal.branch-pair-requires
+unfolding table
+branch-pair-requires m c =
+    let n : c.alternative.result.0 ≡ 1 = omega arith in
+    let e : c.node.result.now ≡ t.Second c.alternative.result.1.now = cc (second_of_two c.alternative.result.1.now) in
+    (_, _, (seq_parts (table k.UseBranch) e c.node.ensures.shaped))
+
+pub branch-use_name-requires : goal.branch-use_name-requires
+unfolding table
+branch-use_name-requires m c =
+    let n : c.alternative.result.0 ≡ 1 = omega arith in
+    let e : c.node.result.now ≡ t.Second c.alternative.result.1.now = cc (second_of_two c.alternative.result.1.now) in
+    (seq_parts _ c.pair.ensures (seq_parts (table k.UseBranch) e c.node.ensures.shaped)).0
+
+pub branch-named-requires : goal.branch-named-requires
+unfolding table
+branch-named-requires m c =
+    let n : c.alternative.result.0 ≡ 1 = omega arith in
+    let e : c.node.result.now ≡ t.Second c.alternative.result.1.now = cc (second_of_two c.alternative.result.1.now) in
+    (omega (arith, c.decreases, ap node_count c.node.ensures.node, ap node_count e, ap node_count c.pair.ensures),
+    (seq_parts _ c.pair.ensures (seq_parts (table k.UseBranch) e c.node.ensures.shaped)).1)
+
+pub use_trees-elements-requires : goal.use_trees-elements-requires
+use_trees-elements-requires m c = (c.requires.0, ref k.UseTree, c.requires.1)
+
+pub use_trees-use_tree-requires : goal.use_trees-use_tree-requires
+use_trees-use_tree-requires m c =
+    let es = c.elements.result.before.now in
+    let i = c.loop-element.element-index in
+    let x = c.element-item.result in
+    let o = ending (λ b. b.now) c.elements.result.last in
+    let below : i < length es = omega arith in
+    let inv = c.loop-element.invariant in
+    (omega (arith, c.decreases, (element_fewer 44 es i x o _ below c.element-item.is inv.fewer).0),
+    (element_shaped 44 es i x o inv.shaped.0 (ref k.UseTree) below c.element-item.is inv.shaped.1).0)
+
+pub use_tree-node-requires : goal.use_tree-node-requires
+use_tree-node-requires m c = c.requires
+
+pub use_tree-alternative-requires : goal.use_tree-alternative-requires
+unfolding table
+use_tree-alternative-requires m c = (table k.UseTree, refl, c.node.ensures.shaped)
+
+pub use_tree-use_trees-requires : goal.use_tree-use_trees-requires
+unfolding table
+use_tree-use_trees-requires m c =
+    let e : c.node.result.now ≡ t.First c.alternative.result.1.now = cc (first_of_two c.alternative.result.1.now) in
+    (omega (arith, c.decreases, ap node_count c.node.ensures.node, ap node_count e, ap node_count c.group.ensures),
+    (_, (seq_parts _ c.group.ensures (seq_parts (table k.UseTree) e c.node.ensures.shaped)).1))
+
+pub use_tree-branch-requires : goal.use_tree-branch-requires
+unfolding table
+use_tree-branch-requires m c =
+    let n : c.alternative.result.0 ≡ 1 = omega arith in
+    let e : c.node.result.now ≡ t.Second c.alternative.result.1.now = cc (second_of_two c.alternative.result.1.now) in
+    (omega (arith, c.decreases, ap node_count c.node.ensures.node, ap node_count e), (seq_parts (table k.UseTree) e
+    c.node.ensures.shaped))
+
 pub named-returns-in_ok-new-in-0 : goal.named-returns-in_ok-new-in-0
-named-returns-in_ok-new-in-0 t c =
+named-returns-in_ok-new-in-0 m c =
     path_made (record { ident = c.args.ident; colon2_token = c.sign.result; tree = c.in_ok-new-in-0.field-0 })
     ∙ ap (λ y. use_branch (t.Second (t.Pair (use_name c.args.ident) y))) (ap t.First (pair_kept _ _ _ _ _
     c.pair.ensures
@@ -28,7 +138,7 @@ named-returns-in_ok-new-in-0 t c =
     2 _ 0 _ c.alternative-which.result.1.now c.alternative-which.ensures.chosen c.in-0.is)))
 
 pub named-returns-in_ok-rename-in-1 : goal.named-returns-in_ok-rename-in-1
-named-returns-in_ok-rename-in-1 t c =
+named-returns-in_ok-rename-in-1 m c =
     rename_made (record { ident = c.args.ident; as_token = c.keyword.result; rename = c.in_ok-rename-in-1.rename })
     ∙ ap (λ y. use_branch (t.Second (t.Pair (use_name c.args.ident) y))) (ap (λ y. t.Second (t.First y)) (pair_kept
     _ _ _ _ _
@@ -36,7 +146,7 @@ named-returns-in_ok-rename-in-1 t c =
     c.alternative-which.result.1.now c.alternative-which.ensures.chosen c.in-1.is)))
 
 pub named-returns-in_default : goal.named-returns-in_default
-named-returns-in_default t c =
+named-returns-in_default m c =
     let o = c.alternative-which.result.1.now in
     let i : c.alternative-which.result.0 ≡ 2 = omega arith in
     name_made (record { ident = c.args.ident })
@@ -47,7 +157,7 @@ named-returns-in_default t c =
 
 pub branch-returns-in-0-default : goal.branch-returns-in-0-default
 unfolding held
-branch-returns-in-0-default t c =
+branch-returns-in-0-default m c =
     let e : c.node.result.now ≡ t.First c.alternative.result.1.now = cc (first_of_two c.alternative.result.1.now) in
     glob_made (record { star_token = c.sign.result })
     ∙ ap (λ y. t.Node k.UseTree (t.Second y)) (ap (λ y. t.Node k.UseBranch (t.First y)) c.sign.ensures
@@ -55,7 +165,7 @@ branch-returns-in-0-default t c =
 
 pub branch-returns-in_ok-use_name-in_default : goal.branch-returns-in_ok-use_name-in_default
 unfolding held
-branch-returns-in_ok-use_name-in_default t c =
+branch-returns-in_ok-use_name-in_default m c =
     let n : c.alternative.result.0 ≡ 1 = omega arith in
     let e : c.node.result.now ≡ t.Second c.alternative.result.1.now = cc (second_of_two c.alternative.result.1.now) in
     made_other c.named.result use_tree _ _ c.named.ensures
@@ -64,7 +174,7 @@ branch-returns-in_ok-use_name-in_default t c =
 
 pub use_tree-returns-in_ok-items-in-0-default : goal.use_tree-returns-in_ok-items-in-0-default
 unfolding held
-use_tree-returns-in_ok-items-in-0-default t c =
+use_tree-returns-in_ok-items-in-0-default m c =
     let e : c.node.result.now ≡ t.First c.alternative.result.1.now = cc (first_of_two c.alternative.result.1.now) in
     let d = c.group.result.0 in
     group_made (record { brace_token = d; items = c.in_ok-items-in-0-default.items })
@@ -73,7 +183,7 @@ use_tree-returns-in_ok-items-in-0-default t c =
 
 pub use_tree-returns-in_default : goal.use_tree-returns-in_default
 unfolding held
-use_tree-returns-in_default t c =
+use_tree-returns-in_default m c =
     let n : c.alternative.result.0 ≡ 1 = omega arith in
     let e : c.node.result.now ≡ t.Second c.alternative.result.1.now = cc (second_of_two c.alternative.result.1.now) in
     made_other c.branch.result use_tree _ _ c.branch.ensures

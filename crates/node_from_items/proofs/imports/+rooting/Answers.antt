@@ -1,10 +1,11 @@
-use Rattle.std.specs.Prelude.{Some, false}
+use Rattle.std.specs.Prelude.{Some, false, refl}
 use Rattle.std.proofs.Common.{◌≡◌, ◌<◌, ◌≤◌, ◌+◌, ◌++◌, ◌∷◌, [], ◌∙◌, ap, arith, drop, length, subst, suc, sym}
 use Rattle.std.proofs.lemmas.Bool.{false≢true}
 use Rattle.std.proofs.lemmas.Result.{IfOk-weaker}
 use Rattle.syn_grammar.specs.Gram.{ref}
 use Rattle.syn_grammar.specs.Kept.{kept, held}
 use Rattle.syn_grammar.specs.Kind as k
+use Rattle.syn_grammar.specs.Table.{table}
 use Rattle.syn_grammar.specs.Tree as t
 use Rattle.syn_grammar.specs.Verdicts.{has_root}
 use Rattle.node_words.specs.Words.{all_listed, enclosed}
@@ -12,6 +13,7 @@ use Rattle.node_views.specs.Imports.{use_tree, rooted}
 use Rattle.node_from.proofs.Joined.{first_of_two, second_of_two}
 use Rattle.node_from_items.specs.Imports.{top, whole}
 use Rattle.node_from_items.proofs.ImportMade.{group_made}
+use Rattle.node_from_items.proofs.Pieces.{seq_parts}
 use Rattle.syn_grammar.specs.Tree.{Tree, First, Node}
 use denote.Bor.{Bor}
 use Rattle.reader_tree.specs.Forms.{elements, ending}
@@ -20,9 +22,33 @@ use Rattle.node_take.proofs.Lists.{one_last}
 use Rattle.node_from_items.proofs.ImportLists.{element_rootless, tops_listed}
 use Rattle.node_from_items.proofs.imports.+rooting.Goals as goal
 
+pub tops-elements-requires : goal.tops-elements-requires
+tops-elements-requires m c = (c.requires.shaped.0, ref k.UseTop, c.requires.shaped.1)
+
+pub top-node-requires : goal.top-node-requires
+top-node-requires m c = c.requires.shaped
+
+pub top-alternative-requires : goal.top-alternative-requires
+unfolding table
+top-alternative-requires m c = (table k.UseTop, refl, c.node.ensures.shaped)
+
+pub use_rooted-node-requires : goal.use_rooted-node-requires
+use_rooted-node-requires m c = c.requires.shaped
+
+pub use_rooted-alternative-requires : goal.use_rooted-alternative-requires
+unfolding table
+use_rooted-alternative-requires m c = (table k.UseRooted, refl, c.node.ensures.shaped)
+
+pub use_rooted-branch-requires : goal.use_rooted-branch-requires
+unfolding table
+use_rooted-branch-requires m c =
+    let n : c.alternative.result.0 ≡ 1 = omega arith in
+    let e : c.node.result.now ≡ t.Second c.alternative.result.1.now = cc (second_of_two c.alternative.result.1.now) in
+    (seq_parts (table k.UseRooted) e c.node.ensures.shaped)
+
 pub top-returns : goal.top-returns
 unfolding held
-top-returns t c =
+top-returns m c =
     let n : c.alternative.result.0 ≡ 1 = omega arith in
     let e : c.node.result.now ≡ t.Second c.alternative.result.1.now = cc (second_of_two c.alternative.result.1.now) in
     IfOk-weaker c.use_rooted.result (λ x. rooted (use_tree x) ≡ kept c.alternative.result.1.now)
@@ -31,7 +57,7 @@ top-returns t c =
 
 pub use_rooted-returns-in_ok-items-in-0-default : goal.use_rooted-returns-in_ok-items-in-0-default
 unfolding held
-use_rooted-returns-in_ok-items-in-0-default t c =
+use_rooted-returns-in_ok-items-in-0-default m c =
     let e : c.node.result.now ≡ t.First c.alternative.result.1.now = cc (first_of_two c.alternative.result.1.now) in
     let d = c.group.result.0 in
     ap rooted (group_made (record { brace_token = d; items = c.in_ok-items-in-0-default.items }))
@@ -40,7 +66,7 @@ use_rooted-returns-in_ok-items-in-0-default t c =
 
 pub use_rooted-returns-in_default : goal.use_rooted-returns-in_default
 unfolding held
-use_rooted-returns-in_default t c =
+use_rooted-returns-in_default m c =
     let n : c.alternative.result.0 ≡ 1 = omega arith in
     let e : c.node.result.now ≡ t.Second c.alternative.result.1.now = cc (second_of_two c.alternative.result.1.now) in
     IfOk-weaker c.branch.result (λ x. use_tree x ≡ whole (kept c.alternative.result.1.now))
