@@ -58,7 +58,8 @@ returns-in_ok-definition-in-0-default-clause-end g c =
     ∙ early_end f o w d (seq_parts _ e c.requires.shaped) (subst (λ x. is_placed x ≡ true) e c.requires.placed)
     c.in_ok-conditions-in-0-default.ensures ∙ sym (ap kept e)
 
-pub returns-in_ok-definition-in-0-default-clause-undefined : goal.returns-in_ok-definition-in-0-default-clause-undefined
+pub returns-in_ok-definition-in-0-default-clause-undefined :
+    goal.returns-in_ok-definition-in-0-default-clause-undefined
 returns-in_ok-definition-in-0-default-clause-undefined g c =
     let f = g.R.Reader.view in
     let o = c.in_ok-conditions-in-0-default.conditions in
@@ -86,6 +87,7 @@ returns-in_ok-optional_where-in_default-clause-undefined g c =
     let w = c.pair-in_default.result.1.now in
     let e : c.args.tree.now ≡ t.Second (t.Pair d w) =
     second_of _ _ _ c.alternative.ensures.chosen (omega arith) ∙ ap t.Second c.pair-in_default.ensures in
-    λ q. late_undefined f o d w (seq_parts _ e c.requires.shaped) (subst (λ x. is_placed x ≡ true) e c.requires.placed)
+    λ q. late_undefined f o d w (seq_parts _ e c.requires.shaped) (subst (λ x. is_placed x ≡ true) e
+    c.requires.placed)
     c.in_ok-optional_where-in_default.ensures
     (ap (words.optional (type_value f)) (sym q) ∙ c.in_ok-definition-in_default.ensures) ∙ sym (ap kept e)

@@ -94,7 +94,8 @@ returns g c =
     let e = subst (λ x. is_defined x ≡ false) c.six.ensures
     (subst (λ x. is_defined (own x) ≡ false) c.node-inner.ensures.node c.requires.undefined) in
     let d = c.in_ok-conditions.field-0 in
-    let q = alias_undefined f d.placement d.definition d.conditions r.0.now r.1.now r.2.now r.3.now r.4.now r.5.now h e
+    let q = alias_undefined f d.placement d.definition d.conditions r.0.now r.1.now r.2.now r.3.now r.4.now r.5.now h
+    e
     (c.in_ok-conditions.ensures.end ∙ ap kept (sym (ap inside c.called.ensures.1))) in
     ap (λ x. foreign_item_of f c.args.front.attrs.items (visibility f c.args.front.vis)
     (alternative 2 (t.Called the_item x)))
@@ -102,7 +103,8 @@ returns g c =
     c.in_ok-ident.ensures
     (called_kept the_generics (ref k.Generics) _ _ _ h.1.1.0 c.called-2.ensures c.in_ok-generics.ensures.params)
     (sym (alias_unbounded k.InForeign r.0.now r.1.now r.2.now r.3.now r.4.now r.5.now h b))
-    (called_kept the_value (type_end k.InForeign) _ _ _ h.1.1.1.1.0 c.called.ensures (ap (λ o. end_of f placements.Early None o) c.in_ok-generics.ensures.clause
+    (called_kept the_value (type_end k.InForeign) _ _ _ h.1.1.1.1.0 c.called.ensures (ap (λ o. end_of f
+    placements.Early None o) c.in_ok-generics.ensures.clause
     ∙ c.in_ok-conditions.ensures.undefined q))
     c.sign.ensures)
     ∙ sym (ap kept c.node-inner.ensures.node))

@@ -95,12 +95,14 @@ returns g c =
     let d = c.in_ok-definition.field-0 in
     let e = c.in-Some.eq_token in
     let y = c.in-Some.ty in
-    ap (λ x. impl_item_of f c.args.front.attrs.items (visibility f c.args.front.vis) c.args.defaultness (alternative 2 x))
+    ap (λ x. impl_item_of f c.args.front.attrs.items (visibility f c.args.front.vis) c.args.defaultness (alternative
+    2 x))
     (ap (t.Node (k.ATypeAlias k.InImpl)) (six_kept _ _ _ _ _ _ _ _ _ _ _ _ _ c.six.ensures c.keyword.ensures
     c.in_ok-ident.ensures
     (called_kept the_generics (ref k.Generics) _ _ _ h.1.1.0 c.called-2.ensures c.in_ok-generics.ensures.params)
     (sym (alias_unbounded k.InImpl r.0.now r.1.now r.2.now r.3.now r.4.now r.5.now h b))
-    (called_kept the_value (type_end k.InImpl) _ _ _ h.1.1.1.1.0 c.called.ensures (ap (λ o. t.Pair (words.optional (type_value f) (Some (e, y))) (conditions f o)) c.in_ok-generics.ensures.clause
+    (called_kept the_value (type_end k.InImpl) _ _ _ h.1.1.1.1.0 c.called.ensures (ap (λ o. t.Pair (words.optional
+    (type_value f) (Some (e, y))) (conditions f o)) c.in_ok-generics.ensures.clause
     ∙ ap (λ q. t.Pair (words.optional (type_value f) q) (conditions f d.conditions)) (sym c.in-Some.is)
     ∙ c.in_ok-definition.ensures))
     c.sign.ensures)

@@ -111,7 +111,8 @@ returns g c =
     c.in_ok-ident.ensures
     (called_kept the_generics (ref k.Generics) _ _ _ h.1.1.0 c.called-2.ensures c.in_ok-generics.ensures.params)
     (sym (alias_unbounded k.InFile r.0.now r.1.now r.2.now r.3.now r.4.now r.5.now h b))
-    (called_kept the_value (type_end k.InFile) _ _ _ h.1.1.1.1.0 c.called.ensures (ap (λ o. end_of f d.placement (Some (e, y)) o) c.in_ok-generics.ensures.clause
+    (called_kept the_value (type_end k.InFile) _ _ _ h.1.1.1.1.0 c.called.ensures (ap (λ o. end_of f d.placement
+    (Some (e, y)) o) c.in_ok-generics.ensures.clause
     ∙ ap (λ z. end_of f d.placement (Some (e, z)) d.conditions) c.in_ok-new-in-Some.ensures.ok
     ∙ ap (λ q. end_of f d.placement q d.conditions) (sym c.in-Some.is) ∙ c.in_ok-definition.ensures.end))
     c.sign.ensures)
