@@ -45,7 +45,7 @@ returns-in_ok-name-in-0-default g c =
     (name_held _ _ _ _ _ _ _ _
     (dot_parts _ _ _ _ _ _ _ c.pair.ensures c.pair-2.ensures c.called.ensures c.requires.own
     ∙ ap (t.Pair _) (n ∙ ap t.First (called_is the_name ident _ _ h c.called-in-0-default.ensures)))
-    c.in_ok-base.ensures c.sign.ensures c.in_ok-name.ensures)
+    c.in_ok-base.ensures c.sign.ensures c.in_ok-name-in-0-default.ensures)
 
 pub field_of_text-requires : goal.field_of_text-requires
 unfolding table
@@ -56,7 +56,7 @@ field_of_text-requires g c =
     (parts k.ExprField c.pair.ensures c.requires.own).1 in
     ap are_indices c.as_str.ensures
     ∙ number_stands _ _ (called_shaped the_value (literal are_indices) _ _ h c.called-in_default.ensures)
-    c.in_ok-literal.ensures.text
+    c.in_ok-literal-in_default.ensures.text
 
 pub returns-in_ok-literal-in_default : goal.returns-in_ok-literal-in_default
 unfolding table
@@ -68,7 +68,7 @@ returns-in_ok-literal-in_default g c =
     (parts k.ExprField c.pair.ensures c.requires.own).1 in
     subst (λ w. IfOk c.field_of_text.result (λ x. expr_field f x ≡ w))
     (ap (λ cs. index_fields (f c.in_ok-base.base.value) (indices cs)) c.as_str.ensures
-    ∙ number_held (kept c.args.left.now) _ _ _ _ _ c.args.own.now (literal_text c.in_ok-literal.literal)
+    ∙ number_held (kept c.args.left.now) _ _ _ _ _ c.args.own.now (literal_text c.in_ok-literal-in_default.literal)
     (dot_parts _ _ _ _ _ _ _ c.pair.ensures c.pair-2.ensures c.called.ensures c.requires.own
     ∙ ap (t.Pair _) (n ∙ ap t.Second (called_is the_value (literal are_indices) _ _ h c.called-in_default.ensures)))
-    c.in_ok-base.ensures c.in_ok-literal.ensures.text refl) c.field_of_text.ensures
+    c.in_ok-base.ensures c.in_ok-literal-in_default.ensures.text refl) c.field_of_text.ensures
