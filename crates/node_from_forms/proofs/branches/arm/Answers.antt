@@ -75,5 +75,6 @@ returns g c =
     arm_whole _ _ _ _ _ _ _ _ _ _ _ _ _ _ _ _ _ c.node.ensures.node
     c.kept-inside.ensures c.six.ensures c.called.ensures c.called-2.ensures c.node.ensures.shaped
     c.in_ok-attrs.ensures.outer
-    (ap several c.in_ok-pat.ensures ∙ several_single _ (parts k.Arm (c.kept-inside.ensures ∙ ap t.First c.six.ensures) c.node.ensures.shaped).1.1.0)
+    (ap several c.in_ok-pat.ensures
+    ∙ several_single _ (parts k.Arm (c.kept-inside.ensures ∙ ap t.First c.six.ensures) c.node.ensures.shaped).1.1.0)
     c.in_ok-guard.ensures c.sign.ensures c.in_ok-body.ensures c.arm_comma.ensures

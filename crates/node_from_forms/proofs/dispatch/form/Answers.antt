@@ -81,16 +81,20 @@ between-requires-clause-right_fewer g c =
 
 pub returns-in-Alone : goal.returns-in-Alone
 returns-in-Alone g c =
-    subst (λ y. IfOk c.atom.result (λ x. expr g.R.Reader.view x ≡ kept y)) (sym (c.which_form.ensures ∙ ap formed_tree c.in-Alone.is)) c.atom.ensures
+    subst (λ y. IfOk c.atom.result (λ x. expr g.R.Reader.view x ≡ kept y))
+    (sym (c.which_form.ensures ∙ ap formed_tree c.in-Alone.is)) c.atom.ensures
 
 pub returns-in-Before : goal.returns-in-Before
 returns-in-Before g c =
-    subst (λ y. IfOk c.before.result (λ x. expr g.R.Reader.view x ≡ kept y)) (sym (c.which_form.ensures ∙ ap formed_tree c.in-Before.is)) c.before.ensures
+    subst (λ y. IfOk c.before.result (λ x. expr g.R.Reader.view x ≡ kept y))
+    (sym (c.which_form.ensures ∙ ap formed_tree c.in-Before.is)) c.before.ensures
 
 pub returns-in-Behind : goal.returns-in-Behind
 returns-in-Behind g c =
-    subst (λ y. IfOk c.postfix.result (λ x. expr g.R.Reader.view x ≡ kept y)) (sym (c.which_form.ensures ∙ ap formed_tree c.in-Behind.is)) c.postfix.ensures
+    subst (λ y. IfOk c.postfix.result (λ x. expr g.R.Reader.view x ≡ kept y))
+    (sym (c.which_form.ensures ∙ ap formed_tree c.in-Behind.is)) c.postfix.ensures
 
 pub returns-in-Between : goal.returns-in-Between
 returns-in-Between g c =
-    subst (λ y. IfOk c.between.result (λ x. expr g.R.Reader.view x ≡ kept y)) (sym (c.which_form.ensures ∙ ap formed_tree c.in-Between.is)) c.between.ensures
+    subst (λ y. IfOk c.between.result (λ x. expr g.R.Reader.view x ≡ kept y))
+    (sym (c.which_form.ensures ∙ ap formed_tree c.in-Between.is)) c.between.ensures

@@ -23,7 +23,8 @@ atom-requires-clause-fewer g c =
 
 pub prefix-requires-clause-which : goal.prefix-requires-clause-which
 prefix-requires-clause-which g c =
-    gives_none _ _ _ (subst (λ x. begins_attributed x ≡ false) (c.which_form.ensures ∙ ap formed_tree c.in-Before.is) c.requires.begins)
+    gives_none _ _ _
+    (subst (λ x. begins_attributed x ≡ false) (c.which_form.ensures ∙ ap formed_tree c.in-Before.is) c.requires.begins)
 
 pub prefix-requires-clause-own : goal.prefix-requires-clause-own
 prefix-requires-clause-own g c =
@@ -83,16 +84,20 @@ between-requires-clause-right_fewer g c =
 
 pub returns-in-Alone : goal.returns-in-Alone
 returns-in-Alone g c =
-    subst (λ y. IfOk c.atom.result (λ x. expr g.R.Reader.view x ≡ kept y)) (sym (c.which_form.ensures ∙ ap formed_tree c.in-Alone.is)) c.atom.ensures
+    subst (λ y. IfOk c.atom.result (λ x. expr g.R.Reader.view x ≡ kept y))
+    (sym (c.which_form.ensures ∙ ap formed_tree c.in-Alone.is)) c.atom.ensures
 
 pub returns-in-Before : goal.returns-in-Before
 returns-in-Before g c =
-    subst (λ y. IfOk c.prefix.result (λ x. expr g.R.Reader.view x ≡ kept y)) (sym (c.which_form.ensures ∙ ap formed_tree c.in-Before.is)) c.prefix.ensures
+    subst (λ y. IfOk c.prefix.result (λ x. expr g.R.Reader.view x ≡ kept y))
+    (sym (c.which_form.ensures ∙ ap formed_tree c.in-Before.is)) c.prefix.ensures
 
 pub returns-in-Behind : goal.returns-in-Behind
 returns-in-Behind g c =
-    subst (λ y. IfOk c.postfix.result (λ x. expr g.R.Reader.view x ≡ kept y)) (sym (c.which_form.ensures ∙ ap formed_tree c.in-Behind.is)) c.postfix.ensures
+    subst (λ y. IfOk c.postfix.result (λ x. expr g.R.Reader.view x ≡ kept y))
+    (sym (c.which_form.ensures ∙ ap formed_tree c.in-Behind.is)) c.postfix.ensures
 
 pub returns-in-Between : goal.returns-in-Between
 returns-in-Between g c =
-    subst (λ y. IfOk c.between.result (λ x. expr g.R.Reader.view x ≡ kept y)) (sym (c.which_form.ensures ∙ ap formed_tree c.in-Between.is)) c.between.ensures
+    subst (λ y. IfOk c.between.result (λ x. expr g.R.Reader.view x ≡ kept y))
+    (sym (c.which_form.ensures ∙ ap formed_tree c.in-Between.is)) c.between.ensures

@@ -55,5 +55,6 @@ returns g c =
     (method_held _ _ _ _ _ _ _ _
     (dot_parts _ _ _ _ _ _ _ c.four.ensures c.pair.ensures c.called.ensures c.requires.own) c.in_ok-receiver.ensures
     c.sign.ensures (three_kept _ _ _ _ _ _ _ refl
-    (called_kept the_name ident _ _ _ (parts k.ExprMethodCall c.four.ensures c.requires.own).1.0 c.called-2.ensures c.in_ok-method.ensures)
+    (called_kept the_name ident _ _ _ (parts k.ExprMethodCall c.four.ensures c.requires.own).1.0
+    c.called-2.ensures c.in_ok-method.ensures)
     c.in_ok-turbofish.ensures (ap (t.Group _) c.in_ok-args.ensures ∙ sym (ap kept c.group.ensures))))
