@@ -155,3 +155,11 @@ view_use x =
 pub view_verbatim : (x : List Spanned) → item_view (items.Verbatim x) ≡ verbatim x
 view_verbatim x =
     ap item_view (sym (items.rolls-Verbatim x)) ∙ fold-roll-Item Tree Tree item_step node_step (layer.Verbatim x)
+
+-- all of them
+
+pub ruleset node_equations = (view_expr, view_item, view_meta, view_pat, view_type)
+
+pub ruleset item_equations =
+    (view_const, view_enum, view_extern_crate, view_fn, view_foreign_mod, view_impl, view_macro, view_mod, view_static,
+    view_struct, view_trait, view_trait_alias, view_item_type, view_union, view_use, view_verbatim)

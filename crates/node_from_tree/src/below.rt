@@ -1,9 +1,20 @@
 //! What makes the nodes in one.
 
 ghost use Rattle.node_closed.specs.Views.{item_view, node_view};
+ghost use Rattle.node_from_bodies.specs.StatementParts.{a_statement};
 ghost use Rattle.node_from_tree.specs.Nests.{MakesNodes, MakesPatterns, MakesStatements};
+ghost use Rattle.node_shapes.specs.Shape.{IsShaped};
+ghost use Rattle.node_views.specs.Expressions as expressions;
+ghost use Rattle.node_views.specs.Imports as imports;
+ghost use Rattle.node_views.specs.Items as items;
+ghost use Rattle.node_views.specs.Members as members;
+ghost use Rattle.node_views.specs.Patterns as patterns;
+ghost use Rattle.node_views.specs.Statements as statements;
 ghost use Rattle.reader_tree.specs.Size.{node_count};
 ghost use Rattle.std.specs.Prelude.{◌≡◌, ◌<◌, ◌≤◌, IfOk};
+ghost use Rattle.syn_grammar.specs.Gram.{ref};
+ghost use Rattle.syn_grammar.specs.Kept.{kept};
+ghost use Rattle.syn_grammar.specs.Kind as k;
 
 use node_expressions::expr::Expr;
 use node_expressions::statement::Stmt;
@@ -61,7 +72,7 @@ impl<
     }
 }
 
-#[tactic(auto, using(node_closed::proofs::Equations::view_expr, node_closed::proofs::Equations::view_pat))]
+#[tactic(auto, using(node_closed::proofs::Equations::node_equations))]
 impl<
     't,
     'a,
@@ -70,11 +81,15 @@ impl<
     S: Fn(Global, &Tree<'_>) -> Result<Stmt<Node>, AllocError>,
 > Maker<Node> for Below<'t, 'a, N, P, S>
 {
-    fn expression(&self, form: Expr<Node>) -> Node {
+    fn expression(&self, form: Expr<Node>) -> Node
+        ensures { node_view result ≡ expressions.expr node_view form }
+    {
         Node::Expr(form)
     }
 
-    fn pattern(&self, pattern: Pat<Node>) -> Node {
+    fn pattern(&self, pattern: Pat<Node>) -> Node
+        ensures { node_view result ≡ patterns.pat node_view pattern }
+    {
         Node::Pat(pattern)
     }
 
@@ -82,24 +97,36 @@ impl<
         &self,
         attrs: Vec<Attribute<Node>>,
         tree: &Tree<'_>,
-    ) -> Result<Node, AllocError> {
+    ) -> Result<Node, AllocError>
+        requires ready { MakesPatterns (node_count self.now.above.now) (P.pre self.now.pattern) (P.post self.now.pattern) }
+        requires shaped { IsShaped tree.now (ref k.OnePattern) }
+        requires fewer { node_count tree.now < node_count self.now.above.now }
+        ensures { IfOk result (λ x. node_view x
+            ≡ patterns.behind_attributes node_view attrs.items (kept tree.now)) }
+    {
         (self.pattern)(self.alloc, attrs, tree)
     }
 
-    fn statement(&self, tree: &Tree<'_>) -> Result<Stmt<Node>, AllocError> {
+    fn statement(&self, tree: &Tree<'_>) -> Result<Stmt<Node>, AllocError>
+        requires ready { MakesStatements (node_count self.now.above.now) (S.pre self.now.statement)
+            (S.post self.now.statement) }
+        requires shaped { IsShaped tree.now a_statement }
+        requires fewer { node_count tree.now < node_count self.now.above.now }
+        ensures { IfOk result (λ x. statements.block_stmt node_view x ≡ kept tree.now) }
+    {
         (self.statement)(self.alloc, tree)
     }
 }
 
 // An item, in a place of its own.
-#[tactic(auto, using(node_closed::proofs::Equations::view_item))]
+#[tactic(auto, using(node_closed::proofs::Equations::node_equations))]
 fn placed(alloc: Global, item: Item) -> Result<Node, AllocError>
     ensures { IfOk result (λ x. node_view x ≡ item_view item) }
 {
     Ok(Node::Item(Box::new(alloc, item)?))
 }
 
-#[tactic(auto, using(node_closed::proofs::Equations::items))]
+#[tactic(auto, using(node_closed::proofs::Equations::item_equations))]
 impl<
     't,
     'a,
@@ -108,67 +135,99 @@ impl<
     S: Fn(Global, &Tree<'_>) -> Result<Stmt<Node>, AllocError>,
 > ItemMaker<Node> for Below<'t, 'a, N, P, S>
 {
-    fn of_const(&self, item: ItemConst<Node>) -> Result<Node, AllocError> {
+    fn of_const(&self, item: ItemConst<Node>) -> Result<Node, AllocError>
+        ensures { IfOk result (λ x. node_view x ≡ items.item_const node_view item) }
+    {
         placed(self.alloc, Item::Const(item))
     }
 
-    fn of_enum(&self, item: ItemEnum<Node>) -> Result<Node, AllocError> {
+    fn of_enum(&self, item: ItemEnum<Node>) -> Result<Node, AllocError>
+        ensures { IfOk result (λ x. node_view x ≡ items.item_enum node_view item) }
+    {
         placed(self.alloc, Item::Enum(item))
     }
 
-    fn of_extern_crate(&self, item: ItemExternCrate<Node>) -> Result<Node, AllocError> {
+    fn of_extern_crate(&self, item: ItemExternCrate<Node>) -> Result<Node, AllocError>
+        ensures { IfOk result (λ x. node_view x ≡ items.item_extern_crate node_view item) }
+    {
         placed(self.alloc, Item::ExternCrate(item))
     }
 
-    fn of_fn(&self, item: ItemFn<Node>) -> Result<Node, AllocError> {
+    fn of_fn(&self, item: ItemFn<Node>) -> Result<Node, AllocError>
+        ensures { IfOk result (λ x. node_view x ≡ items.item_fn node_view item) }
+    {
         placed(self.alloc, Item::Fn(item))
     }
 
-    fn of_foreign_mod(&self, item: ItemForeignMod<Node>) -> Result<Node, AllocError> {
+    fn of_foreign_mod(&self, item: ItemForeignMod<Node>) -> Result<Node, AllocError>
+        ensures { IfOk result (λ x. node_view x ≡ members.item_foreign_mod node_view item) }
+    {
         placed(self.alloc, Item::ForeignMod(item))
     }
 
-    fn of_impl(&self, item: ItemImpl<Node>) -> Result<Node, AllocError> {
+    fn of_impl(&self, item: ItemImpl<Node>) -> Result<Node, AllocError>
+        ensures { IfOk result (λ x. node_view x ≡ members.item_impl node_view item) }
+    {
         placed(self.alloc, Item::Impl(item))
     }
 
-    fn of_macro(&self, item: ItemMacro<Node>) -> Result<Node, AllocError> {
+    fn of_macro(&self, item: ItemMacro<Node>) -> Result<Node, AllocError>
+        ensures { IfOk result (λ x. node_view x ≡ items.item_macro node_view item) }
+    {
         placed(self.alloc, Item::Macro(item))
     }
 
-    fn of_mod(&self, item: ItemMod<Node>) -> Result<Node, AllocError> {
+    fn of_mod(&self, item: ItemMod<Node>) -> Result<Node, AllocError>
+        ensures { IfOk result (λ x. node_view x ≡ items.item_mod node_view item) }
+    {
         placed(self.alloc, Item::Mod(item))
     }
 
-    fn of_static(&self, item: ItemStatic<Node>) -> Result<Node, AllocError> {
+    fn of_static(&self, item: ItemStatic<Node>) -> Result<Node, AllocError>
+        ensures { IfOk result (λ x. node_view x ≡ items.item_static node_view item) }
+    {
         placed(self.alloc, Item::Static(item))
     }
 
-    fn of_struct(&self, item: ItemStruct<Node>) -> Result<Node, AllocError> {
+    fn of_struct(&self, item: ItemStruct<Node>) -> Result<Node, AllocError>
+        ensures { IfOk result (λ x. node_view x ≡ items.item_struct node_view item) }
+    {
         placed(self.alloc, Item::Struct(item))
     }
 
-    fn of_trait(&self, item: ItemTrait<Node>) -> Result<Node, AllocError> {
+    fn of_trait(&self, item: ItemTrait<Node>) -> Result<Node, AllocError>
+        ensures { IfOk result (λ x. node_view x ≡ members.item_trait node_view item) }
+    {
         placed(self.alloc, Item::Trait(item))
     }
 
-    fn of_trait_alias(&self, item: ItemTraitAlias<Node>) -> Result<Node, AllocError> {
+    fn of_trait_alias(&self, item: ItemTraitAlias<Node>) -> Result<Node, AllocError>
+        ensures { IfOk result (λ x. node_view x ≡ members.item_trait_alias node_view item) }
+    {
         placed(self.alloc, Item::TraitAlias(item))
     }
 
-    fn of_type(&self, item: ItemType<Node>) -> Result<Node, AllocError> {
+    fn of_type(&self, item: ItemType<Node>) -> Result<Node, AllocError>
+        ensures { IfOk result (λ x. node_view x ≡ items.item_type node_view item) }
+    {
         placed(self.alloc, Item::Type(item))
     }
 
-    fn of_union(&self, item: ItemUnion<Node>) -> Result<Node, AllocError> {
+    fn of_union(&self, item: ItemUnion<Node>) -> Result<Node, AllocError>
+        ensures { IfOk result (λ x. node_view x ≡ items.item_union node_view item) }
+    {
         placed(self.alloc, Item::Union(item))
     }
 
-    fn of_use(&self, item: ItemUse<Node>) -> Result<Node, AllocError> {
+    fn of_use(&self, item: ItemUse<Node>) -> Result<Node, AllocError>
+        ensures { IfOk result (λ x. node_view x ≡ imports.item_use node_view item) }
+    {
         placed(self.alloc, Item::Use(item))
     }
 
-    fn of_tokens(&self, tokens: TokenStream) -> Result<Node, AllocError> {
+    fn of_tokens(&self, tokens: TokenStream) -> Result<Node, AllocError>
+        ensures { IfOk result (λ x. node_view x ≡ items.verbatim tokens) }
+    {
         placed(self.alloc, Item::Verbatim(tokens))
     }
 }

@@ -30,11 +30,11 @@ use node_patterns::Pat;
 use node_tree::Node;
 use reader_table::kind::Plus;
 use reader_tree::tree::Tree;
-use rust_map::span::Span;
 use std::alloc::{AllocError, Global};
+use syn_kinds::underscore::Underscore;
 
 // The node that a tree is, by what makes those in it.
-#[tactic(auto, using(node_closed::proofs::Equations::nodes))]
+#[tactic(auto, using(node_closed::proofs::Equations::node_equations))]
 fn node_by<R: ItemMaker<Node>>(below: &R, what: What, tree: &Tree<'_>) -> Result<Node, AllocError>
     requires ready { R.ready below.now }
     requires view { R.view ≡ node_view }
@@ -54,7 +54,7 @@ fn node_by<R: ItemMaker<Node>>(below: &R, what: What, tree: &Tree<'_>) -> Result
         What::OnePattern => Ok(Node::Pat(from_patterns::one_pattern(below, tree)?)),
         What::Pattern => Ok(Node::Pat(from_patterns::pattern(below, tree)?)),
         What::Wild => {
-            let wild = from_patterns::left_out(below, Span::call_site());
+            let wild = from_patterns::left_out(below, Underscore::default().span);
             Ok(Node::Pat(Pat::Wild(wild)))
         }
     }
