@@ -11,7 +11,7 @@ use Rattle.node_from_forms.proofs.branches.+choosing.Goals as goal
 pub else_operand-returns-in_ok-new-in_default : goal.else_operand-returns-in_ok-new-in_default
 else_operand-returns-in_ok-new-in_default g n c =
     let last = c.alternative.result.1.now in
-    let e : c.alternative.result.0 ≡ 1 = omega (arith, c.alternative.ensures.which, c.in_default.not-0) in
+    let e : c.alternative.result.0 ≡ 1 = omega arith in
     let d = c.alternative.ensures.chosen ∙ ap (λ m. among 1 m last) e in
     let h = subst (λ x. IsShaped x else_operand_entry) d c.requires.shaped in
     ap else_operand (ap g.R.Reader.view c.in_ok-new-in_default.ensures.ok ∙ c.expression-in_default.ensures
