@@ -63,16 +63,13 @@ unfolding table word
 keyword-requires g c =
     (omega arith, (parts k.AnEnum c.five.ensures c.node-inner.ensures.shaped).0)
 
-pub separated-requires-clause-shaped : goal.separated-requires-clause-shaped
+pub separated-requires : goal.separated-requires
 unfolding table
-separated-requires-clause-shaped g c =
-    (_, (subst (λ x. IsShaped x (in_braces (many_to_end (ref k.Variant)))) c.group.ensures (parts k.AnEnum
-    c.five.ensures c.node-inner.ensures.shaped).1.1.1.1).1)
-
-pub separated-requires-clause-fewer : goal.separated-requires-clause-fewer
-separated-requires-clause-fewer g c =
-    omega (arith, ap node_count c.node-inner.ensures.node, ap node_count c.five.ensures, ap node_count
-    c.group.ensures, c.requires.fewer)
+separated-requires g c =
+    (omega arith, (c.requires.ready, ((_, (subst (λ x. IsShaped x (in_braces (many_to_end (ref k.Variant))))
+    c.group.ensures (parts k.AnEnum c.five.ensures c.node-inner.ensures.shaped).1.1.1.1).1),
+    omega (arith, ap node_count c.node-inner.ensures.node, ap node_count c.five.ensures,
+    ap node_count c.group.ensures, c.requires.fewer))))
 
 pub returns : goal.returns
 unfolding held table
