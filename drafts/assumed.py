@@ -1,7 +1,9 @@
 #!/usr/bin/env python3
 """Writes a copy of some crates in which all below them is assumed, so that they can be tried in minutes.
 
-Usage: tools/assumed.py FOLDER CRATE..
+Usage: tools/assumed.py FOLDER [--too] CRATE..
+
+With --too each CRATE is written so itself, whole: what stands above it can then be tried.
 
 FOLDER gets a copy of each CRATE. The crates below them stand there with their types, contracts and definitions, but
 with no proofs: the body of each function is the call of a C function that is said never to return. So their libraries
@@ -15,7 +17,7 @@ import re
 import shutil
 import sys
 
-TOP = os.path.join(os.path.dirname(os.path.abspath(__file__)), '..')
+TOP = os.environ.get('TOP') or os.path.join(os.path.dirname(os.path.abspath(__file__)), '..')
 NEVER_DONE = '''//! What never returns.
 #![tactic(auto)]
 
@@ -129,6 +131,13 @@ def block_of(lines, at):
     return head.startswith('impl') and ' for ' not in head.replace('for<', '')
 
 
+def of_type(lines, at):
+    """Whether the attribute at that line is one of a type."""
+    while lines[at].lstrip().startswith(('#', '/')):
+        at += 1
+    return re.match(r'^ *(pub(\([a-z ]+\))? )?(struct|enum)\b', lines[at]) is not None
+
+
 def assumed(text, unneeded):
     """A source whose functions call what never returns, without those of the names unneeded."""
     lines, made, at, is_own = text.split('\n'), [], 0, False
@@ -151,7 +160,7 @@ def assumed(text, unneeded):
                 head = lines[begin][:-1] if lines[begin].endswith('{}') else lines[begin]
                 made += lines[at:begin] + [head, f'{indent}    {STOP}', indent + '}']
             at = last + 1
-        elif not line.strip().startswith('#[cycle('):
+        elif not line.strip().startswith('#[cycle(') or of_type(lines, at):
             made.append(line)
             at += 1
         else:
@@ -263,7 +272,7 @@ def unneeded_names(sources, own, lemmas, crates):
     return functions - needed - modules, free
 
 
-def main(folder, own):
+def main(folder, own, too):
     uses = libraries()
     crates = in_order(uses, own)
     lemmas = Lemmas(crates, own)
@@ -278,7 +287,7 @@ def main(folder, own):
     shutil.rmtree(folder, ignore_errors=True)
     for crate in crates:
         at = f'{folder}/crates/{crate}'
-        if crate in own:
+        if crate in own and not too:
             shutil.copytree(f'{TOP}/crates/{crate}', at, ignore=shutil.ignore_patterns('out'))
             continue
         for path in files(f'{TOP}/crates/{crate}/src', '.rt'):
@@ -289,11 +298,11 @@ def main(folder, own):
         lemmas.write(crate, at)
     write(f'{folder}/crates/never_done/src/lib.rt', NEVER_DONE)
     write(f'{folder}/crates/never_done/c/stop.c', '/* Never returns. */\nunsigned char never_done_stop(void) { for (;;) { } }\n')
-    lines = [f"{it}: {' '.join(uses[it] + ([] if it in own else ['never_done']))}" for it in crates]
+    lines = [f"{it}: {' '.join(uses[it] + ([] if it in own and not too else ['never_done']))}" for it in crates]
     write(f'{folder}/crates.txt', '\n'.join(['never_done:', *lines]) + '\n')
 
 
 if __name__ == '__main__':
     if len(sys.argv) < 3:
         sys.exit(__doc__)
-    main(sys.argv[1], set(sys.argv[2:]))
+    main(sys.argv[1], set(sys.argv[2:]) - {'--too'}, '--too' in sys.argv)

@@ -1,5 +1,5 @@
 -- Attributes in front of a form.
-use Rattle.std.specs.Prelude.{◌≡◌, ◌++◌, ℕ, true, false, List, [], ◌∷◌, refl}
+use Rattle.std.specs.Prelude.{◌≡◌, ◌++◌, ℕ, true, false, IfOk, List, [], ◌∷◌, Result, Ok, Err, refl}
 use Rattle.std.proofs.Common.{ap, sym, ◌∙◌}
 use Rattle.std.proofs.lemmas.Bool.{false≢true}
 use Rattle.syn_grammar.specs.Kept.{dotted, fields_in_front, index_field, index_fields, kept}
@@ -9,6 +9,7 @@ use Rattle.syn_grammar.specs.Name.{the_indices, the_value}
 use Rattle.syn_grammar.specs.Tree as t
 use Rattle.syn_grammar.specs.Tree.{Tree, ALiteral, Called, Pair, Second}
 use Rattle.syn_grammar.specs.Words.{before_dot, behind_dots, texts_of}
+use Rattle.node_expressions.specs.declared.block.Block.{Block}
 use Rattle.node_expressions.specs.declared.expr.Expr.{Expr}
 use Rattle.node_paths.specs.declared.attribute.Attribute.{Attribute}
 use Rattle.node_shapes.specs.Forms.{begins_attributed}
@@ -19,9 +20,9 @@ use Rattle.node_take.specs.declared.form.Before.TheVariants as befores
 use Rattle.node_take.specs.declared.form.Between.{Between}
 use Rattle.node_take.specs.declared.form.Between.TheVariants as betweens
 use Rattle.node_views.specs.Expressions.{expr}
-use Rattle.node_views.specs.Paths.{attribute, inner_of, outer}
-use Rattle.node_views.specs.Statements.{attributed, behind_outer}
-use Rattle.node_words.specs.Words.{turns}
+use Rattle.node_views.specs.Paths.{attribute, inner_attributes, inner_of, outer}
+use Rattle.node_views.specs.Statements.{attributed, behind_outer, body, statements}
+use Rattle.node_words.specs.Words.{◌▸◌, enclosed, turns}
 use Rattle.node_from_bodies.specs.Operands.{is_range}
 use Rattle.node_from_parts.proofs.InFront.{inner_in_front, outer_in_front}
 use Rattle.node_from_forms.specs.Fronts.{gives_attributes, is_bare}
@@ -34,7 +35,7 @@ none_in_front f [] y h = refl
 none_in_front f (x ∷ xs) y h = absurd (false≢true h)
 
 -- the own part may hold those within, which stay the same
-pub put_before : {E : Type 0} (f : E → Tree) (fs xs zs : List (Attribute E)) (y z : Tree) → zs ≡ fs ++ xs
+put_before : {E : Type 0} (f : E → Tree) (fs xs zs : List (Attribute E)) (y z : Tree) → zs ≡ fs ++ xs
     → is_bare (attributed f xs y) ≡ true → z ≡ y
     → attributed f zs z ≡ behind_outer (turns (attribute f) (outer fs)) (attributed f xs y)
 put_before f fs xs zs y z e h d =
@@ -44,19 +45,39 @@ put_before f fs xs zs y z e h d =
     ∙ ap (λ us. behind_outer (turns (attribute f) (outer fs)) (behind_outer (turns (attribute f) us) y)) (sym n)
 
 -- what stands within it does so all the same
-pub inside_front : {E : Type 0} (fs xs zs : List (Attribute E)) → zs ≡ fs ++ xs → inner_of fs ≡ []
+inside_front : {E : Type 0} (fs xs zs : List (Attribute E)) → zs ≡ fs ++ xs → inner_of fs ≡ []
     → inner_of zs ≡ inner_of xs
 inside_front fs xs zs e h = ap inner_of e ∙ inner_in_front fs xs h
 
--- of a form, whatever else it has
-pub front_put : {E : Type 0} (f : E → Tree) (fs xs zs : List (Attribute E)) (y z : Tree) (o n : Expr E)
-    → zs ≡ fs ++ xs → is_bare (expr f o) ≡ true → expr f o ≡ attributed f xs y → expr f n ≡ attributed f zs z → z ≡ y
-    → expr f n ≡ behind_outer (turns (attribute f) (outer fs)) (expr f o)
-front_put f fs xs zs y z o n e h p q d =
-    q ∙ put_before f fs xs zs y z e (sym (ap is_bare p) ∙ h) d
+-- where attributes were put in front of those of a form, whatever else it has
+pub arm_put : {E A F : Type 0} (r : Result A F) (f : E → Tree) (fs xs zs : List (Attribute E)) (y : Tree) (o : Expr E)
+    → IfOk r (λ _. zs ≡ fs ++ xs) → is_bare (expr f o) ≡ true → expr f o ≡ attributed f xs y
+    → IfOk r (λ _. attributed f zs y ≡ behind_outer (turns (attribute f) (outer fs)) (expr f o))
+arm_put (Ok v) f fs xs zs y o e h p =
+    put_before f fs xs zs y y e (sym (ap is_bare p) ∙ h) refl
     ∙ ap (behind_outer (turns (attribute f) (outer fs))) (sym p)
+arm_put (Err v) f fs xs zs y o e h p = tt
 
-pub ruleset fronts = (put_before, inner_in_front)
+-- the same of one that has attributes within too
+pub within_put : {E A F : Type 0} (r : Result A F) (f : E → Tree) (fs xs zs : List (Attribute E)) (form : Tree → Tree)
+    (own put : Tree) (o : Expr E)
+    → IfOk r (λ _. zs ≡ fs ++ xs) → is_bare (expr f o) ≡ true → expr f o ≡ attributed f xs (form own)
+    → (zs ≡ fs ++ xs → put ≡ own)
+    → IfOk r (λ _. attributed f zs (form put) ≡ behind_outer (turns (attribute f) (outer fs)) (expr f o))
+within_put (Ok v) f fs xs zs form own put o e h p d =
+    put_before f fs xs zs (form own) (form put) e (sym (ap is_bare p) ∙ h) (ap form (d e))
+    ∙ ap (behind_outer (turns (attribute f) (outer fs))) (sym p)
+within_put (Err v) f fs xs zs form own put o e h p d = tt
+
+pub inner_put : {E : Type 0} (f : E → Tree) (fs xs zs : List (Attribute E)) → inner_of fs ≡ [] → zs ≡ fs ++ xs
+    → inner_attributes f zs ≡ inner_attributes f xs
+inner_put f fs xs zs h e =
+    ap (λ us. t.Node k.InnerAttributes (turns (attribute f) us)) (inside_front fs xs zs e h)
+
+pub body_put : {E : Type 0} (f : E → Tree) (fs xs zs : List (Attribute E)) (b : Block E) → inner_of fs ≡ []
+    → zs ≡ fs ++ xs → body f zs b ≡ body f xs b
+body_put f fs xs zs b h e =
+    ap (λ w. t.Node k.Body (enclosed b.brace_token (w ▸ statements f b))) (inner_put f fs xs zs h e)
 
 -- a form that begins with no attributes has none in front
 

@@ -4,6 +4,7 @@ pub mod DottedForms
 pub mod FieldTexts
 pub mod FieldValues
 pub mod FormFronts
+pub mod FormKinds
 pub mod Names
 pub mod Parts
 pub mod TypedClosures

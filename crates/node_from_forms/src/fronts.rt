@@ -17,17 +17,13 @@ use std::alloc::AllocError;
 macro_rules! fronted {
     ($form:ident, $front:ident, $($variant:ident)*) => {
         match $form {
-            $(Expr::$variant(node) => {
-                put_in_front($front, &mut node.attrs)?;
-                Ok(())
-            })*
+            $(Expr::$variant(node) => put_in_front($front, &mut node.attrs),)*
             Expr::Verbatim(_) => unreachable!(),
         }
     };
 }
 
 // Puts attributes in front of a form, which has none there.
-#[tactic(auto, using(crate::proofs::FormFronts::fronts))]
 fn put_front<E: Drop, R: Maker<E>>(
     _below: &R,
     front: Vec<Attribute<E>>,

@@ -149,6 +149,30 @@ pub no_cast : (i : Behind) (l y : Tree) → (i ≡ behinds.Cast → ⊥) → goe
 no_cast behinds.Cast l y d = absurd (d refl)
 no_cast _ l y d = refl
 
+-- the same of a tree, of its parts
+
+pub cast_given : (x l o v w a : Tree) (i : Behind) → x ≡ Back l (behind_kind i) o → i ≡ behinds.Cast
+    → w ≡ given_form a (kept l) → v ≡ Back w ExprCast (kept o) → v ≡ given_form a (kept x)
+cast_given x l o v w a i e d p q =
+    q ∙ ap (λ z. Back z ExprCast (kept o)) p ∙ sym (given_cast a (kept l) (kept o))
+    ∙ sym (ap (λ z. given_form a (kept z)) (e ∙ ap (λ j. Back l (behind_kind j) o) d))
+
+pub infix_given : (x l o r v w u a : Tree) (i : Between) → x ≡ Infix l (between_kind i) o r → is_range i ≡ false
+    → w ≡ given_form a (kept l) → u ≡ kept r → v ≡ Infix w (between_kind i) (kept o) u
+    → v ≡ given_form a (kept x)
+infix_given x l o r v w u a i e d p q s =
+    s ∙ ap (λ z. Infix z (between_kind i) (kept o) u) p
+    ∙ ap (Infix (given_form a (kept l)) (between_kind i) (kept o)) q
+    ∙ sym (given_left a (kept l) (between_kind i) (kept o) (kept r) (operator_level i d))
+    ∙ sym (ap (λ z. given_form a (kept z)) e)
+
+pub range_stays : (x l o r : Tree) (i : Between) → x ≡ Infix l (between_kind i) o r → is_range i ≡ true
+    → goes_left x ≡ false
+unfolding level
+range_stays x l o r betweens.Range e d = ap goes_left e
+range_stays x l o r betweens.RangeClosed e d = ap goes_left e
+range_stays x l o r _ e d = absurd (false≢true d)
+
 pub ruleset belongs = (given_left, given_cast, operator_level, no_cast)
 
 -- calls of macros

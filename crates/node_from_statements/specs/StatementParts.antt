@@ -8,17 +8,29 @@ use Rattle.syn_grammar.specs.Say.{◌∶◌, ◌▸◌, at, keyword, marks, opti
 abbrev pub typed : Gram
 typed = optional (marks ":") (sign ":" ▸ the_type ∶ ref (k.AType k.WithPlus))
 
+-- else block
+abbrev pub else_words : Gram
+else_words = keyword "else" ▸ ref k.Block
+
 -- (else block)?
 abbrev pub else_part : Gram
-else_part = optional (at "else") (the_else ∶ (keyword "else" ▸ ref k.Block))
+else_part = optional (at "else") (the_else ∶ else_words)
+
+-- = Expr (else block)?
+abbrev pub initial_words : Gram
+initial_words = sign "=" ▸ the_value ∶ ref (k.Expression k.Plain) ▸ else_part
 
 -- (= Expr (else block)?)?
 abbrev pub initial : Gram
-initial = optional (marks "=") (sign "=" ▸ the_value ∶ ref (k.Expression k.Plain) ▸ else_part)
+initial = optional (marks "=") initial_words
 
 -- ;?
 abbrev pub maybe_semicolon : Gram
 maybe_semicolon = optional (marks ";") (the_semicolon ∶ sign ";")
+
+-- a macro, behind its attributes
+abbrev pub macro_words : Gram
+macro_words = ref k.OuterAttributes ▸ ref k.AMacro ▸ maybe_semicolon
 
 -- an expression, behind its attributes
 abbrev pub an_expression : Gram

@@ -24,7 +24,8 @@ atom-requires-clause-fewer g c =
 pub prefix-requires-clause-which : goal.prefix-requires-clause-which
 prefix-requires-clause-which g c =
     gives_none _ _ _
-    (subst (λ x. begins_attributed x ≡ false) (c.which_form.ensures ∙ ap formed_tree c.in-Before.is) c.requires.begins)
+    (subst (λ x. begins_attributed x ≡ false) (c.which_form.ensures ∙ ap formed_tree c.in-Before.is)
+    c.requires.begins)
 
 pub prefix-requires-clause-own : goal.prefix-requires-clause-own
 prefix-requires-clause-own g c =

@@ -1,4 +1,5 @@
 use Rattle.syn_grammar.specs.Expressions.{dot}
+use Rattle.syn_grammar.specs.Kept.{kept}
 use Rattle.syn_grammar.specs.Table.{table}
 use Rattle.syn_grammar.specs.Kind as k
 use Rattle.node_from_forms.proofs.DottedForms.{dot_parts, dot_numbers, await_held}
@@ -26,6 +27,8 @@ pub returns : goal.returns
 unfolding table
 returns g c =
     by_itself g.R.Reader.view c.new.result.items _ _ c.new.ensures.items
-    (await_held _ _ _ _ _ _ _ _
-    (dot_parts _ _ _ _ _ _ _ c.pair.ensures c.pair-2.ensures c.called.ensures c.requires.own) c.in_ok-base.ensures
+    (await_held (kept c.args.left.now) _ c.pair-2.result.0.now c.called.result.now c.pair.result.1.now _ _
+    c.args.own.now
+    (dot_parts c.args.own.now c.pair.result.0.now c.pair.result.1.now c.pair-2.result.0.now c.pair-2.result.1.now
+    c.called.result.now _ c.pair.ensures c.pair-2.ensures c.called.ensures c.requires.own) c.in_ok-base.ensures
     c.sign.ensures c.keyword.ensures)

@@ -3,7 +3,7 @@ use Rattle.std.proofs.Common.{◌∙◌, ap, arith, subst}
 use Rattle.syn_grammar.specs.Expressions.{dot}
 use Rattle.syn_grammar.specs.Gram.{literal}
 use Rattle.syn_grammar.specs.Kept.{kept, index_fields}
-use Rattle.syn_grammar.specs.Name.{the_name, the_value}
+use Rattle.syn_grammar.specs.Name.{the_indices, the_name, the_value}
 use Rattle.syn_grammar.specs.Say.{◌∶◌, when◌read◌else◌, ident}
 use Rattle.syn_grammar.specs.Table.{table}
 use Rattle.syn_grammar.specs.Kind as k
@@ -42,9 +42,12 @@ returns-in_ok-name-in-0-default g c =
     let h = seq_parts (when an_ident read the_name ∶ ident else the_value ∶ literal are_indices) n
     (parts k.ExprField c.pair.ensures c.requires.own).1 in
     by_itself g.R.Reader.view c.new.result.items _ _ c.new.ensures.items
-    (name_held _ _ _ _ _ _ _ _
-    (dot_parts _ _ _ _ _ _ _ c.pair.ensures c.pair-2.ensures c.called.ensures c.requires.own
-    ∙ ap (t.Pair _) (n ∙ ap t.First (called_is the_name ident _ _ h c.called-in-0-default.ensures)))
+    (name_held (kept c.args.left.now) _ c.pair-2.result.0.now c.called.result.now
+    c.called-in-0-default.result.now _ _ c.args.own.now
+    (dot_parts c.args.own.now c.pair.result.0.now c.pair.result.1.now c.pair-2.result.0.now c.pair-2.result.1.now
+    c.called.result.now _ c.pair.ensures c.pair-2.ensures c.called.ensures c.requires.own
+    ∙ ap (t.Pair (t.Pair c.pair-2.result.0.now (t.Called the_indices c.called.result.now)))
+    (n ∙ ap t.First (called_is the_name ident _ _ h c.called-in-0-default.ensures)))
     c.in_ok-base.ensures c.sign.ensures c.in_ok-name-in-0-default.ensures)
 
 pub field_of_text-requires : goal.field_of_text-requires
@@ -68,7 +71,10 @@ returns-in_ok-literal-in_default g c =
     (parts k.ExprField c.pair.ensures c.requires.own).1 in
     subst (λ w. IfOk c.field_of_text.result (λ x. expr_field f x ≡ w))
     (ap (λ cs. index_fields (f c.in_ok-base.base.value) (indices cs)) c.as_str.ensures
-    ∙ number_held (kept c.args.left.now) _ _ _ _ _ c.args.own.now (literal_text c.in_ok-literal-in_default.literal)
-    (dot_parts _ _ _ _ _ _ _ c.pair.ensures c.pair-2.ensures c.called.ensures c.requires.own
-    ∙ ap (t.Pair _) (n ∙ ap t.Second (called_is the_value (literal are_indices) _ _ h c.called-in_default.ensures)))
+    ∙ number_held (kept c.args.left.now) _ c.pair-2.result.0.now c.called.result.now
+    c.called-in_default.result.now _ c.args.own.now (literal_text c.in_ok-literal-in_default.literal)
+    (dot_parts c.args.own.now c.pair.result.0.now c.pair.result.1.now c.pair-2.result.0.now c.pair-2.result.1.now
+    c.called.result.now _ c.pair.ensures c.pair-2.ensures c.called.ensures c.requires.own
+    ∙ ap (t.Pair (t.Pair c.pair-2.result.0.now (t.Called the_indices c.called.result.now)))
+    (n ∙ ap t.Second (called_is the_value (literal are_indices) _ _ h c.called-in_default.ensures)))
     c.in_ok-base.ensures c.in_ok-literal-in_default.ensures.text refl) c.field_of_text.ensures

@@ -1,5 +1,6 @@
 use Rattle.std.specs.Prelude.{refl}
 use Rattle.std.proofs.Common.{◌∙◌, ap, arith, sym}
+use Rattle.proc_macro2.specs.declared.delimiter.Delimiter.TheVariants as delimiter
 use Rattle.syn_grammar.specs.Expressions.{dot}
 use Rattle.syn_grammar.specs.Kept.{kept}
 use Rattle.syn_grammar.specs.Name.{the_name}
@@ -52,9 +53,14 @@ pub returns : goal.returns
 unfolding table
 returns g c =
     by_itself g.R.Reader.view c.new.result.items _ _ c.new.ensures.items
-    (method_held _ _ _ _ _ _ _ _
-    (dot_parts _ _ _ _ _ _ _ c.four.ensures c.pair.ensures c.called.ensures c.requires.own) c.in_ok-receiver.ensures
-    c.sign.ensures (three_kept _ _ _ _ _ _ _ refl
+    (method_held (kept c.args.left.now) _ c.pair.result.0.now c.called.result.now
+    (t.Pair c.four.result.1.now (t.Pair c.four.result.2.now c.four.result.3.now)) _ _ c.args.own.now
+    (dot_parts c.args.own.now c.four.result.0.now
+    (t.Pair c.four.result.1.now (t.Pair c.four.result.2.now c.four.result.3.now)) c.pair.result.0.now
+    c.pair.result.1.now c.called.result.now _ c.four.ensures c.pair.ensures c.called.ensures c.requires.own)
+    c.in_ok-receiver.ensures c.sign.ensures
+    (three_kept _ c.four.result.1.now c.four.result.2.now c.four.result.3.now _ _ _ refl
     (called_kept the_name ident _ _ _ (parts k.ExprMethodCall c.four.ensures c.requires.own).1.0
     c.called-2.ensures c.in_ok-method.ensures)
-    c.in_ok-turbofish.ensures (ap (t.Group _) c.in_ok-args.ensures ∙ sym (ap kept c.group.ensures))))
+    c.in_ok-turbofish.ensures
+    (ap (t.Group delimiter.Parenthesis) c.in_ok-args.ensures ∙ sym (ap kept c.group.ensures))))

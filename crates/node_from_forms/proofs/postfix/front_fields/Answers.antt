@@ -1,4 +1,4 @@
-use Rattle.std.proofs.Common.{◌≡◌, ◌<◌, ◌≤◌, ◌∙◌, ap, arith, length}
+use Rattle.std.proofs.Common.{◌<◌, ◌≤◌, ◌∙◌, ap, arith, length}
 use Rattle.rust_leaf.specs.Leaf.{literal_text}
 use Rattle.syn_grammar.specs.Gram.{literal}
 use Rattle.syn_grammar.specs.Kept.{index_fields}
@@ -28,7 +28,8 @@ loop-number-preserved g c =
     record {
       whole =
           number_put _ _ _ xs i x (literal_text c.in_ok-literal.literal) below c.number-item.is
-          c.in_ok-literal.ensures.text (cc text) inv.whole;
+          c.in_ok-literal.ensures.text
+          (ap f c.in_ok-base-2.ensures.ok ∙ c.expression.ensures ∙ c.in_ok-field.ensures ∙ text) inv.whole;
       shaped =
           (inv.shaped.0, (turn_shaped xs i x inv.shaped.0 (literal are_indices) below c.number-item.is
           inv.shaped.1).1);

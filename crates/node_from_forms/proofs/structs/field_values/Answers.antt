@@ -1,5 +1,5 @@
 use Rattle.std.specs.Prelude.{◌≡◌, not, true}
-use Rattle.std.proofs.Common.{◌∙◌, ap, subst}
+use Rattle.std.proofs.Common.{◌∙◌, ap, arith, subst}
 use Rattle.syn_grammar.specs.Gram.{many, ref}
 use Rattle.syn_grammar.specs.Kind as k
 use Rattle.syn_grammar.specs.Look.{sees, the_end}
@@ -8,9 +8,10 @@ use Rattle.syn_grammar.specs.Expressions.{is_base}
 use Rattle.syn_grammar.specs.Say.{in_braces, many_to_end}
 use Rattle.syn_grammar.specs.Table.{table}
 use Rattle.syn_grammar.specs.Tree as t
-use Rattle.reader_tree.specs.Forms.{ending}
+use Rattle.reader_tree.specs.Forms.{elements, ending}
+use Rattle.reader_tree.specs.Size.{node_count}
 use Rattle.node_shapes.specs.Shape.{IsShaped}
-use Rattle.node_from_parts.proofs.PickedLists.{end_passes, end_shaped}
+use Rattle.node_from_parts.proofs.PickedLists.{end_fewer, end_passes, end_shaped, last_fewer}
 use Rattle.node_from_forms.proofs.FieldValues.{fields_pass, fields_shaped}
 use Rattle.node_from_forms.proofs.structs.field_values.Goals as goal
 
@@ -22,20 +23,27 @@ kept-enclosed-requires g c = (
   c.node.ensures.shaped,
 )
 
-pub picked-requires-clause-shaped : goal.picked-requires-clause-shaped
-picked-requires-clause-shaped g c =
-    let o = ending (λ b. b.now) c.elements.result.last in (
-      sees the_end,
-      end_shaped 44 c.elements.result.before.now o (sees the_end) (ref k.AFieldValue)
-      (subst (λ y. IsShaped y (many (sees the_end) 44 (ref k.AFieldValue))) c.elements.ensures
-      (fields_shaped c.node.result.now c.group.result.1.now _ c.node.ensures.shaped
-      (c.kept-enclosed.ensures ∙ ap t.First c.group.ensures))),
-    )
-
-pub picked-requires-clause-passed : goal.picked-requires-clause-passed
-picked-requires-clause-passed g c =
+pub picked-requires : goal.picked-requires
+unfolding table
+picked-requires g c =
+    let es = c.elements.result.before.now in
     let o = ending (λ b. b.now) c.elements.result.last in
-    end_passes 44 (λ y. not (is_base y)) c.elements.result.before.now o
+    let d = c.kept-enclosed.ensures ∙ ap t.First c.group.ensures in
+    let shaped = end_shaped 44 es o (sees the_end) (ref k.AFieldValue)
+    (subst (λ y. IsShaped y (many (sees the_end) 44 (ref k.AFieldValue))) c.elements.ensures
+    (fields_shaped c.node.result.now c.group.result.1.now _ c.node.ensures.shaped d)) in
+    let passed = end_passes 44 (λ y. not (is_base y)) es o
     (subst (λ y. each_separated (λ z. not (is_base z)) y ≡ true) c.elements.ensures
-    (fields_pass c.node.result.now c.group.result.1.now _ c.node.ensures.shaped
-    (c.kept-enclosed.ensures ∙ ap t.First c.group.ensures)))
+    (fields_pass c.node.result.now c.group.result.1.now _ c.node.ensures.shaped d)) in
+    let fewer = end_fewer 44 es o (g.R.Reader.bound c.args.below.now) (omega (arith,
+    ap node_count c.node.ensures.node, ap node_count d, ap node_count c.elements.ensures, c.requires.fewer)) in
+    (omega arith, (c.requires.ready, ((sees the_end, shaped), (passed, fewer))))
+
+pub field_or_base-requires-clause-fewer : goal.field_or_base-requires-clause-fewer
+field_or_base-requires-clause-fewer g c =
+    let es = c.elements.result.before.now in
+    let x = c.in-Some.last.now in
+    let d = c.kept-enclosed.ensures ∙ ap t.First c.group.ensures in
+    omega (arith, last_fewer 44 es x (node_count (elements 44 es (t.Final x))) (omega arith),
+    ap node_count c.node.ensures.node, ap node_count d, ap node_count c.elements.ensures,
+    ap (λ l. node_count (elements 44 es (ending (λ b. b.now) l))) c.in-Some.is, c.requires.fewer)

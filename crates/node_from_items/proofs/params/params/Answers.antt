@@ -30,8 +30,8 @@ loop-element-preserved g c =
     let put : f v ≡ kept x.tree =
     subst (λ p. param g.R.Reader.view p ≡ kept x.tree) c.in-Arg.is c.in_ok-made.ensures.param in
     let below : i < length es = omega arith in
-    let values : c.push_punct-in-Arg.new.self.values.items ≡ vs ++ v ∷ [] =
-    c.push_punct-in-Arg.ensures.values ∙ c.in_ok-push_value-in-Arg.ensures.ok in
+    let values : c.push_punct.new.self.values.items ≡ vs ++ v ∷ [] =
+    c.push_punct.ensures.values ∙ c.in_ok-push_value-in-Arg.ensures.ok in
     let inv = c.loop-element.invariant in
     let q = element_shaped 44 es i x o inv.shaped.0 (ref k.Parameter) below c.element-item.is inv.shaped.1 in
     record {
@@ -43,7 +43,7 @@ loop-element-preserved g c =
       even =
           ap length values ∙ length_more vs v ∙ ap suc inv.even ∙ sym (length_more ps c.new-comma.result)
           ∙ sym (ap length c.in_ok-push_punct-in-Arg.ensures.ok ∙ ap (λ zs. length (zs ++ c.new-comma.result ∷ []))
-          c.push_value-in-Arg.ensures.separators);
+          c.push_value.ensures.separators);
       fewer = (element_fewer 44 es i x o _ below c.element-item.is inv.fewer).1;
       last = left_behind (λ y. not (is_variadic y)) es i x o below c.element-item.is inv.last;
     }

@@ -1,5 +1,6 @@
-use Rattle.std.proofs.Common.{ap}
-use Rattle.syn_grammar.specs.Kept.{kept}
+use Rattle.std.proofs.Common.{◌∙◌, ap, sym}
+use Rattle.syn_grammar.specs.Alternatives.{a_pattern_and_type}
+use Rattle.syn_grammar.specs.Kept.{kept, lone_colon, wild}
 use Rattle.syn_grammar.specs.Kind as k
 use Rattle.syn_grammar.specs.Tree as t
 use Rattle.syn_kinds.specs.Table as table
@@ -11,7 +12,10 @@ use Rattle.node_from_items.proofs.params.unnamed_param.Goals as goal
 pub returns : goal.returns
 unfolding table.marks table.sign
 returns g c =
-    let a = outer_attributes g.R.Reader.view c.args.attrs.items in
-    let e = named_called a c.args.tree.now _ c.requires.shaped in
-    let i = ap inside c.called-ty.ensures.1 in
-    cc (ap (t.Node k.Parameter) e, ap kept i, c.in_ok-pat.ensures, c.in_ok-ty.ensures)
+    let f = g.R.Reader.view in
+    let a = outer_attributes f c.args.attrs.items in
+    ap (λ y. t.Node k.Parameter (t.Pair a (a_pattern_and_type y lone_colon (f c.in_ok-ty.ty.value))))
+    c.in_ok-pat.ensures
+    ∙ ap (λ y. t.Node k.Parameter (t.Pair a (a_pattern_and_type wild lone_colon y)))
+    (c.in_ok-ty.ensures ∙ sym (ap (λ y. kept (inside y)) c.called-ty.ensures.1))
+    ∙ sym (ap (t.Node k.Parameter) (named_called a c.args.tree.now _ c.requires.shaped))
