@@ -124,7 +124,7 @@ pub expr_paren_mapped :
     → expr_paren (λ y. y) (expr_paren_map h x) ≡ expr_paren h x
 expr_paren_mapped h x =
     attributed_mapped h x.attrs.items _ _ (λ i. t.Alone k.ExprParen (enclosed x.paren_token
-    (t.Final (expression (h x.expr.value)))))
+    (t.Final (expression (h x.expr)))))
 
 pub expr_tuple_mapped :
     {A : Type 0} (h : A → Tree) (x : ExprTuple A)
@@ -145,14 +145,14 @@ pub expr_repeat_mapped :
     → expr_repeat (λ y. y) (expr_repeat_map h x) ≡ expr_repeat h x
 expr_repeat_mapped h x =
     attributed_mapped h x.attrs.items _ _ (λ i. t.Alone k.ExprRepeat (enclosed x.bracket_token (expression
-    (h x.expr.value) ▸ mark x.semi_token ▸ expression (h x.len.value))))
+    (h x.expr) ▸ mark x.semi_token ▸ expression (h x.len))))
 
 pub expr_group_mapped :
     {A : Type 0} (h : A → Tree) (x : ExprGroup A)
     → expr_group (λ y. y) (expr_group_map h x) ≡ expr_group h x
 expr_group_mapped h x =
     attributed_mapped h x.attrs.items _ _ (λ i. t.Alone k.ExprGroup (t.Group delimiter.None
-    (expression (h x.expr.value))))
+    (expression (h x.expr))))
 
 -- blocks
 
@@ -203,52 +203,52 @@ pub expr_while_mapped :
     → expr_while (λ y. y) (expr_while_map h x) ≡ expr_while h x
 expr_while_mapped h x =
     attributed_mapped h x.attrs.items _ _ (λ i. t.Alone k.ExprWhile (optional label x.label ▸ keyword x.while_token
-    ▸ condition (h x.cond.value) ▸ body_mapped h x.attrs.items x.body i))
+    ▸ condition (h x.cond) ▸ body_mapped h x.attrs.items x.body i))
 
 pub expr_for_loop_mapped :
     {A : Type 0} (h : A → Tree) (x : ExprForLoop A)
     → expr_for_loop (λ y. y) (expr_for_loop_map h x) ≡ expr_for_loop h x
 expr_for_loop_mapped h x =
     attributed_mapped h x.attrs.items _ _ (λ i. t.Alone k.ExprForLoop (optional label x.label ▸ keyword x.for_token
-    ▸ several (h x.pat.value) ▸ keyword x.in_token ▸ condition (h x.expr.value) ▸ body_mapped h x.attrs.items x.body
+    ▸ several (h x.pat) ▸ keyword x.in_token ▸ condition (h x.expr) ▸ body_mapped h x.attrs.items x.body
     i))
 
 pub else_branch_mapped :
     {A G : Type 0} (h : A → Tree) (x : Keyword 12 × Box A G)
-    → else_branch (λ y. y) (second_map (box_map h) x) ≡ else_branch h x
+    → else_branch (λ y. y) (second_map h x) ≡ else_branch h x
 else_branch_mapped h x = refl
 
 pub expr_if_mapped : {A : Type 0} (h : A → Tree) (x : ExprIf A) → expr_if (λ y. y) (expr_if_map h x) ≡ expr_if h x
 expr_if_mapped h x =
-    attributed_mapped h x.attrs.items _ _ (λ i. t.Alone k.ExprIf (keyword x.if_token ▸ condition (h x.cond.value)
-    ▸ block_mapped h x.then_branch i ▸ optional_mapped (second_map (box_map h)) (else_branch h)
+    attributed_mapped h x.attrs.items _ _ (λ i. t.Alone k.ExprIf (keyword x.if_token ▸ condition (h x.cond)
+    ▸ block_mapped h x.then_branch i ▸ optional_mapped (second_map h) (else_branch h)
     (else_branch (λ y. y)) (else_branch_mapped h) x.else_branch i))
 
 pub guard_mapped :
     {A G : Type 0} (h : A → Tree) (x : Keyword 19 × Box A G)
-    → guard (λ y. y) (second_map (box_map h) x) ≡ guard h x
+    → guard (λ y. y) (second_map h x) ≡ guard h x
 guard_mapped h x = refl
 
 pub arm_mapped : {A : Type 0} (h : A → Tree) (x : Arm A) → arm (λ y. y) (arm_map h x) ≡ arm h x
 arm_mapped h x =
     λ i. t.Node k.Arm (judged (outer_attributes_mapped h x.attrs.items i ▸ several (h x.pat) ▸ optional_mapped
-    (second_map (box_map h)) (guard h) (guard (λ y. y)) (guard_mapped h) x.guard i ▸ mark x.fat_arrow_token
-    ▸ n.the_body ∶ expression (h x.body.value) ▸ n.the_comma ∶ arm_comma x.comma))
+    (second_map h) (guard h) (guard (λ y. y)) (guard_mapped h) x.guard i ▸ mark x.fat_arrow_token
+    ▸ n.the_body ∶ expression (h x.body) ▸ n.the_comma ∶ arm_comma x.comma))
 
 pub expr_match_mapped :
     {A : Type 0} (h : A → Tree) (x : ExprMatch A)
     → expr_match (λ y. y) (expr_match_map h x) ≡ expr_match h x
 expr_match_mapped h x =
     attributed_mapped h x.attrs.items _ _ (λ i. t.Alone k.ExprMatch (keyword x.match_token ▸ condition
-    (h x.expr.value) ▸ enclosed x.brace_token (inner_attributes_mapped h x.attrs.items i ▸ t.Node k.Arms
+    (h x.expr) ▸ enclosed x.brace_token (inner_attributes_mapped h x.attrs.items i ▸ t.Node k.Arms
     (turns_mapped (arm_map h) (arm h) (arm (λ y. y)) (arm_mapped h) x.arms.items i))))
 
 pub expr_let_mapped :
     {A : Type 0} (h : A → Tree) (x : ExprLet A)
     → expr_let (λ y. y) (expr_let_map h x) ≡ expr_let h x
 expr_let_mapped h x =
-    attributed_mapped h x.attrs.items _ _ (λ i. t.Front k.ExprLet (keyword x.let_token ▸ several (h x.pat.value)
-    ▸ mark x.eq_token) (h x.expr.value))
+    attributed_mapped h x.attrs.items _ _ (λ i. t.Front k.ExprLet (keyword x.let_token ▸ several (h x.pat)
+    ▸ mark x.eq_token) (h x.expr))
 
 -- closures
 
@@ -274,7 +274,7 @@ pub expr_closure_mapped :
     → expr_closure (λ y. y) (expr_closure_map h x) ≡ expr_closure h x
 expr_closure_mapped h x =
     attributed_mapped h x.attrs.items _ _ (closure_mapped h x.output _ _ (closure_head_mapped h x) _ _ (λ i. h
-    x.body.value))
+    x.body))
 
 -- postfix forms
 
@@ -282,14 +282,14 @@ pub expr_call_mapped :
     {A : Type 0} (h : A → Tree) (x : ExprCall A)
     → expr_call (λ y. y) (expr_call_map h x) ≡ expr_call h x
 expr_call_mapped h x =
-    attributed_mapped h x.attrs.items _ _ (λ i. t.Back (h x.func.value) k.ExprCall (enclosed x.paren_token
+    attributed_mapped h x.attrs.items _ _ (λ i. t.Back (h x.func) k.ExprCall (enclosed x.paren_token
     (expressions_mapped h (values x.args) (separators x.args) i)))
 
 pub expr_method_call_mapped :
     {A : Type 0} (h : A → Tree) (x : ExprMethodCall A)
     → expr_method_call (λ y. y) (expr_method_call_map h x) ≡ expr_method_call h x
 expr_method_call_mapped h x =
-    attributed_mapped h x.attrs.items _ _ (λ i. t.Back (h x.receiver.value) k.ExprMethodCall (dot x.dot_token
+    attributed_mapped h x.attrs.items _ _ (λ i. t.Back (h x.receiver) k.ExprMethodCall (dot x.dot_token
     ▸ n.the_name ∶ name x.method ▸ optional_mapped (angle_bracketed_generic_arguments_map h) (angle_bracketed h)
     (angle_bracketed (λ y. y)) (angle_bracketed_mapped h) x.turbofish i ▸ enclosed x.paren_token (expressions_mapped
     h (values x.args) (separators x.args) i)))
@@ -298,35 +298,35 @@ pub expr_field_mapped :
     {A : Type 0} (h : A → Tree) (x : ExprField A)
     → expr_field (λ y. y) (expr_field_map h x) ≡ expr_field h x
 expr_field_mapped h x =
-    attributed_mapped h x.attrs.items _ _ (λ i. t.Back (h x.base.value) k.ExprField
+    attributed_mapped h x.attrs.items _ _ (λ i. t.Back (h x.base) k.ExprField
     (dot x.dot_token ▸ field_member x.member))
 
 pub expr_await_mapped :
     {A : Type 0} (h : A → Tree) (x : ExprAwait A)
     → expr_await (λ y. y) (expr_await_map h x) ≡ expr_await h x
 expr_await_mapped h x =
-    attributed_mapped h x.attrs.items _ _ (λ i. t.Back (h x.base.value) k.ExprAwait
+    attributed_mapped h x.attrs.items _ _ (λ i. t.Back (h x.base) k.ExprAwait
     (dot x.dot_token ▸ keyword x.await_token))
 
 pub expr_index_mapped :
     {A : Type 0} (h : A → Tree) (x : ExprIndex A)
     → expr_index (λ y. y) (expr_index_map h x) ≡ expr_index h x
 expr_index_mapped h x =
-    attributed_mapped h x.attrs.items _ _ (λ i. t.Back (h x.expr.value) k.ExprIndex (enclosed x.bracket_token
-    (expression (h x.index.value))))
+    attributed_mapped h x.attrs.items _ _ (λ i. t.Back (h x.expr) k.ExprIndex (enclosed x.bracket_token
+    (expression (h x.index))))
 
 pub expr_try_mapped :
     {A : Type 0} (h : A → Tree) (x : ExprTry A)
     → expr_try (λ y. y) (expr_try_map h x) ≡ expr_try h x
 expr_try_mapped h x =
-    attributed_mapped h x.attrs.items _ _ (λ i. t.Back (h x.expr.value) k.ExprTry (mark x.question_token))
+    attributed_mapped h x.attrs.items _ _ (λ i. t.Back (h x.expr) k.ExprTry (mark x.question_token))
 
 pub expr_cast_mapped :
     {A : Type 0} (h : A → Tree) (x : ExprCast A)
     → expr_cast (λ y. y) (expr_cast_map h x) ≡ expr_cast h x
 expr_cast_mapped h x =
-    attributed_mapped h x.attrs.items _ _ (λ i. t.Back (h x.expr.value) k.ExprCast (keyword x.as_token
-    ▸ n.the_type ∶ h x.ty.value ▸ absent))
+    attributed_mapped h x.attrs.items _ _ (λ i. t.Back (h x.expr) k.ExprCast (keyword x.as_token
+    ▸ n.the_type ∶ h x.ty ▸ absent))
 
 pub value_form_mapped :
     {A : Type 0} (h : A → Tree) (m : Member) (y : Option (Punctuation 6 1)) (x : A)
@@ -349,19 +349,19 @@ a_field_value_mapped h x = λ i. t.Node k.AFieldValue (t.Second (field_value_map
 
 pub base_mapped :
     {A G : Type 0} (h : A → Tree) (x : Option (Box A G))
-    → base (λ y. y) (option_map (box_map h) x) ≡ base h x
+    → base (λ y. y) (option_map h x) ≡ base h x
 base_mapped h None = refl
 base_mapped h (Some x) = refl
 
 pub field_base_mapped :
     {A G : Type 0} (h : A → Tree) (m : Option (Punctuation 10 2)) (x : Option (Box A G))
-    → field_base (λ y. y) m (option_map (box_map h) x) ≡ field_base h m x
+    → field_base (λ y. y) m (option_map h x) ≡ field_base h m x
 field_base_mapped h m x = λ i. t.Node k.AFieldValue (t.First (n.the_base ∶ (mark_or m ▸ base_mapped h x i)))
 
 pub fields_then_mapped :
     {A P G : Type 0} (h : A → Tree) (l : Punctuated (FieldValue A) P) (m : Option (Punctuation 10 2))
     (x : Option (Box A G))
-    → fields_then (λ y. y) (punctuated_map (field_value_map h) l) m (option_map (box_map h) x) ≡ fields_then h l m x
+    → fields_then (λ y. y) (punctuated_map (field_value_map h) l) m (option_map h x) ≡ fields_then h l m x
 fields_then_mapped h l None None =
     listed_mapped 44 (field_value_map h) (a_field_value h) (a_field_value (λ y. y)) (a_field_value_mapped h)
     (values l) (separators l)
@@ -383,29 +383,29 @@ pub expr_unary_mapped :
     {A : Type 0} (h : A → Tree) (x : ExprUnary A)
     → expr_unary (λ y. y) (expr_unary_map h x) ≡ expr_unary h x
 expr_unary_mapped h x =
-    attributed_mapped h x.attrs.items _ _ (λ i. t.Front k.ExprUnary (un_op x.op) (h x.expr.value))
+    attributed_mapped h x.attrs.items _ _ (λ i. t.Front k.ExprUnary (un_op x.op) (h x.expr))
 
 pub expr_reference_mapped :
     {A : Type 0} (h : A → Tree) (x : ExprReference A)
     → expr_reference (λ y. y) (expr_reference_map h x) ≡ expr_reference h x
 expr_reference_mapped h x =
     attributed_mapped h x.attrs.items _ _ (λ i. t.Front k.ExprReference (mark x.and_token ▸ optional keyword
-    x.mutability) (h x.expr.value))
+    x.mutability) (h x.expr))
 
 pub expr_raw_addr_mapped :
     {A : Type 0} (h : A → Tree) (x : ExprRawAddr A)
     → expr_raw_addr (λ y. y) (expr_raw_addr_map h x) ≡ expr_raw_addr h x
 expr_raw_addr_mapped h x =
     attributed_mapped h x.attrs.items _ _ (λ i. t.Front k.ExprRawAddr (mark x.and_token ▸ keyword x.raw
-    ▸ raw_mutability x.mutability) (h x.expr.value))
+    ▸ raw_mutability x.mutability) (h x.expr))
 
 -- jumps: the operand may be missing
 
 pub jump_mapped :
     {A G : Type 0} (h : A → Tree) (i : Kind) (p p' : Tree) → p ≡ p' → (x : Option (Box A G))
-    → jump (λ y. y) i p (option_map (box_map h) x) ≡ jump h i p' x
+    → jump (λ y. y) i p (option_map h x) ≡ jump h i p' x
 jump_mapped h i p p' ep None = λ j. t.Alone i (ep j)
-jump_mapped h i p p' ep (Some x) = λ j. t.Front i (ep j) (h x.value)
+jump_mapped h i p p' ep (Some x) = λ j. t.Front i (ep j) (h x)
 
 pub expr_break_mapped :
     {A : Type 0} (h : A → Tree) (x : ExprBreak A)
@@ -448,15 +448,15 @@ pub expr_assign_mapped :
     {A : Type 0} (h : A → Tree) (x : ExprAssign A)
     → expr_assign (λ y. y) (expr_assign_map h x) ≡ expr_assign h x
 expr_assign_mapped h x =
-    attributed_mapped h x.attrs.items _ _ (λ i. t.Infix (h x.left.value) k.ExprAssign
-    (alternative 0 (mark x.eq_token)) (h x.right.value))
+    attributed_mapped h x.attrs.items _ _ (λ i. t.Infix (h x.left) k.ExprAssign
+    (alternative 0 (mark x.eq_token)) (h x.right))
 
 pub expr_binary_mapped :
     {A : Type 0} (h : A → Tree) (x : ExprBinary A)
     → expr_binary (λ y. y) (expr_binary_map h x) ≡ expr_binary h x
 expr_binary_mapped h x =
-    attributed_mapped h x.attrs.items _ _ (λ i. t.Infix (h x.left.value) (bin_op_kind x.op) (bin_op x.op)
-    (h x.right.value))
+    attributed_mapped h x.attrs.items _ _ (λ i. t.Infix (h x.left) (bin_op_kind x.op) (bin_op x.op)
+    (h x.right))
 
 pub expr_mapped : {A : Type 0} (h : A → Tree) (x : Expr A) → expr (λ y. y) (expr_map h x) ≡ expr h x
 expr_mapped h (exprs.Array x) = expr_array_mapped h x

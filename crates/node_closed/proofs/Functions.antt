@@ -55,8 +55,8 @@ receiver_mapped h x =
 
 pub typed_mapped : {A : Type 0} (h : A → Tree) (x : PatType A) → typed (λ y. y) (pat_type_map h x) ≡ typed h x
 typed_mapped h x =
-    λ i. t.Node k.Parameter (outer_attributes_mapped h x.attrs.items i ▸ last 3 (n.the_pattern ∶ h x.pat.value
-    ▸ mark x.colon_token ▸ t.Second (n.the_type ∶ h x.ty.value)))
+    λ i. t.Node k.Parameter (outer_attributes_mapped h x.attrs.items i ▸ last 3 (n.the_pattern ∶ h x.pat
+    ▸ mark x.colon_token ▸ t.Second (n.the_type ∶ h x.ty)))
 
 pub fn_arg_mapped : {A : Type 0} (h : A → Tree) (x : FnArg A) → fn_arg (λ y. y) (fn_arg_map h x) ≡ fn_arg h x
 fn_arg_mapped h (args.Receiver x) = receiver_mapped h x
@@ -64,7 +64,7 @@ fn_arg_mapped h (args.Typed x) = typed_mapped h x
 
 pub dots_mapped :
     {A G : Type 0} (h : A → Tree) (x : Option (Box A G × Punctuation 6 1)) (m : Punctuation 11 3)
-    → dots (λ y. y) (option_map (first_map (box_map h)) x) m ≡ dots h x m
+    → dots (λ y. y) (option_map (first_map h) x) m ≡ dots h x m
 dots_mapped h None m = refl
 dots_mapped h (Some p) m = refl
 

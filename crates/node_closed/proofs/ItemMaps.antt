@@ -108,7 +108,7 @@ receiver_kind_join (inr (inr (inr z))) = absurd z
 
 abbrev pub receiver_kind_map : {A B : Type 0} → (A → B) → ReceiverKind A → ReceiverKind B
 receiver_kind_map h x =
-    receiver_kind_join (either (λ y. y) (either (λ y. y) (either (second_map (first_map (box_map h))) (λ z. z)))
+    receiver_kind_join (either (λ y. y) (either (λ y. y) (either (second_map (first_map h)) (λ z. z)))
     (receiver_kind_split x))
 
 abbrev pub receiver_map : {A B : Type 0} → (A → B) → Receiver A → Receiver B
@@ -135,7 +135,7 @@ fn_arg_map h x =
 
 abbrev pub variadic_map : {A B : Type 0} → (A → B) → Variadic A → Variadic B
 variadic_map h x =
-    record { attrs = vec_map (attribute_map h) x.attrs; pat = option_map (first_map (box_map h)) x.pat;
+    record { attrs = vec_map (attribute_map h) x.attrs; pat = option_map (first_map h) x.pat;
     dots = x.dots; comma = x.comma }
 
 abbrev pub signature_map : {A B : Type 0} → (A → B) → Signature A → Signature B
@@ -242,7 +242,7 @@ abbrev pub item_const_map : {A B : Type 0} → (A → B) → ItemConst A → Ite
 item_const_map h x =
     record { attrs = vec_map (attribute_map h) x.attrs; vis = visibility_map h x.vis; modifiers = x.modifiers;
     const_token = x.const_token; ident = x.ident; generics = generics_map h x.generics; colon_token = x.colon_token;
-    ty = box_map (type_map h) x.ty; eq_token = x.eq_token; expr = box_map h x.expr; semi_token = x.semi_token }
+    ty = box_map (type_map h) x.ty; eq_token = x.eq_token; expr = h x.expr; semi_token = x.semi_token }
 
 abbrev pub variant_map : {A B : Type 0} → (A → B) → Variant A → Variant B
 variant_map h x =
@@ -292,7 +292,7 @@ abbrev pub item_static_map : {A B : Type 0} → (A → B) → ItemStatic A → I
 item_static_map h x =
     record { attrs = vec_map (attribute_map h) x.attrs; vis = visibility_map h x.vis; static_token = x.static_token;
     mutability = x.mutability; ident = x.ident; colon_token = x.colon_token; ty = box_map (type_map h) x.ty;
-    eq_token = x.eq_token; expr = box_map h x.expr; semi_token = x.semi_token }
+    eq_token = x.eq_token; expr = h x.expr; semi_token = x.semi_token }
 
 abbrev pub item_struct_map : {A B : Type 0} → (A → B) → ItemStruct A → ItemStruct B
 item_struct_map h x =

@@ -56,7 +56,7 @@ pub item_const_mapped :
     → item_const (λ y. y) (item_const_map h x) ≡ item_const h x
 item_const_mapped h x =
     item_of_mapped h x.attrs.items _ _ (visibility_mapped h x.vis) _ _ (λ i. alternative 7 (const_form x.const_token
-    x.ident (mark x.colon_token) (type_mapped h x.ty.value i) (t.First (value_mapped h (x.eq_token, x.expr.value)
+    x.ident (mark x.colon_token) (type_mapped h x.ty.value i) (t.First (value_mapped h (x.eq_token, x.expr)
     i)) (mark x.semi_token)))
 
 pub item_static_mapped :
@@ -65,7 +65,7 @@ pub item_static_mapped :
 item_static_mapped h x =
     item_of_mapped h x.attrs.items _ _ (visibility_mapped h x.vis) _ _ (λ i. alternative 4 (static_form
     x.static_token x.mutability x.ident (mark x.colon_token) (type_mapped h x.ty.value i) (t.First (value_mapped h
-    (x.eq_token, x.expr.value) i)) (mark x.semi_token)))
+    (x.eq_token, x.expr) i)) (mark x.semi_token)))
 
 -- structs, enums, unions
 

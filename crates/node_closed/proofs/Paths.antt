@@ -189,7 +189,7 @@ pub qualified_path_mapped :
     {A : Type 0} (h : A → Tree) (q : QSelf A) (x : Path A)
     → qualified_path (λ y. y) (q_self_map h q) (path_map h x) ≡ qualified_path h q x
 qualified_path_mapped h q x =
-    λ i. t.Node (k.QualifiedPath k.AtType) (mark q.lt_token ▸ h q.ty.value ▸ as_trait_mapped h q x i
+    λ i. t.Node (k.QualifiedPath k.AtType) (mark q.lt_token ▸ h q.ty ▸ as_trait_mapped h q x i
     ▸ mark q.gt_token ▸ behind_trait q.position x.leading_colon (separators x.segments)
     ▸ dropped_mapped h q.position (values x.segments) (drop q.position (separators x.segments)) i)
 

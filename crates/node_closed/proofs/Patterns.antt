@@ -50,7 +50,7 @@ behind_attributes_mapped h a p p' ep = λ i. behind_turns (outer_turns_mapped h 
 
 pub subpattern_mapped :
     {A G : Type 0} (h : A → Tree) (x : Punctuation 3 1 × Box A G)
-    → subpattern (λ y. y) (second_map (box_map h) x) ≡ subpattern h x
+    → subpattern (λ y. y) (second_map h x) ≡ subpattern h x
 subpattern_mapped h x = refl
 
 pub pat_ident_mapped :
@@ -59,7 +59,7 @@ pub pat_ident_mapped :
 pat_ident_mapped h x =
     behind_attributes_mapped h x.attrs.items _ _ (λ i. one_pattern (alternative 0 (t.Node k.IdentPattern (optional
     keyword x.by_ref ▸ optional keyword x.mutability ▸ name x.ident ▸ t.Second (optional_mapped
-    (second_map (box_map h)) (subpattern h) (subpattern (λ y. y)) (subpattern_mapped h) x.subpat i)))))
+    (second_map h) (subpattern h) (subpattern (λ y. y)) (subpattern_mapped h) x.subpat i)))))
 
 pub pat_wild_mapped :
     {A : Type 0} (h : A → Tree) (x : PatWild A)
@@ -79,7 +79,7 @@ pub pat_paren_mapped :
     → pat_paren (λ y. y) (pat_paren_map h x) ≡ pat_paren h x
 pat_paren_mapped h x =
     behind_attributes_mapped h x.attrs.items _ _ (λ i. in_parentheses (enclosed x.paren_token
-    (t.Final (several (h x.pat.value)))))
+    (t.Final (several (h x.pat)))))
 
 pub pat_tuple_mapped :
     {A : Type 0} (h : A → Tree) (x : PatTuple A)
@@ -101,7 +101,7 @@ pub pat_reference_mapped :
     → pat_reference (λ y. y) (pat_reference_map h x) ≡ pat_reference h x
 pat_reference_mapped h x =
     behind_attributes_mapped h x.attrs.items _ _ (λ i. one_pattern (alternative 6 (t.Node k.ReferencePattern (mark
-    x.and_token ▸ optional keyword x.mutability ▸ h x.pat.value))))
+    x.and_token ▸ optional keyword x.mutability ▸ h x.pat))))
 
 -- literals and paths, alone or as a range's start
 
@@ -128,7 +128,7 @@ pat_tuple_struct_mapped h x =
 
 pub held_mapped :
     {A G : Type 0} (h : A → Tree) (x : Option (Box A G))
-    → held (λ y. y) (option_map (box_map h) x) ≡ held h x
+    → held (λ y. y) (option_map h x) ≡ held h x
 held_mapped h None = refl
 held_mapped h (Some x) = refl
 
@@ -204,8 +204,8 @@ pub pat_type_mapped :
     {A : Type 0} (h : A → Tree) (x : PatType A)
     → pat_type (λ y. y) (pat_type_map h x) ≡ pat_type h x
 pat_type_mapped h x =
-    λ i. t.Node k.ClosureParam (outer_attributes_mapped h x.attrs.items i ▸ h x.pat.value ▸ t.First
-    (mark x.colon_token ▸ h x.ty.value))
+    λ i. t.Node k.ClosureParam (outer_attributes_mapped h x.attrs.items i ▸ h x.pat ▸ t.First
+    (mark x.colon_token ▸ h x.ty))
 
 pub pat_mapped : {A : Type 0} (h : A → Tree) (x : Pat A) → pat (λ y. y) (pat_map h x) ≡ pat h x
 pat_mapped h (pats.«Ident» x) = pat_ident_mapped h x

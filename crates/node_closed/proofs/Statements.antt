@@ -37,15 +37,15 @@ let_value_mapped m (Some d) x = refl
 
 pub diverge_mapped :
     {A G : Type 0} (h : A → Tree) (x : Keyword 12 × Box A G)
-    → diverge (λ y. y) (second_map (box_map h) x) ≡ diverge h x
+    → diverge (λ y. y) (second_map h x) ≡ diverge h x
 diverge_mapped h x = refl
 
 pub local_init_mapped :
     {A : Type 0} (h : A → Tree) (x : LocalInit A)
     → local_init (λ y. y) (local_init_map h x) ≡ local_init h x
 local_init_mapped h x =
-    λ i. mark x.eq_token ▸ n.the_value ∶ expression (let_value_mapped (second_map (box_map h)) x.diverge
-    (h x.expr.value) i) ▸ optional_mapped (second_map (box_map h)) (diverge h) (diverge (λ y. y)) (diverge_mapped h)
+    λ i. mark x.eq_token ▸ n.the_value ∶ expression (let_value_mapped (second_map h) x.diverge
+    (h x.expr) i) ▸ optional_mapped (second_map h) (diverge h) (diverge (λ y. y)) (diverge_mapped h)
     x.diverge i
 
 pub local_mapped : {A : Type 0} (h : A → Tree) (x : Local A) → local (λ y. y) (local_map h x) ≡ local h x

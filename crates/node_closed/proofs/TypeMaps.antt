@@ -109,7 +109,7 @@ return_type_join (inr (inr z)) = absurd z
 
 abbrev pub return_type_map : {A B : Type 0} → (A → B) → ReturnType A → ReturnType B
 return_type_map h x =
-    return_type_join (either (λ y. y) (either (second_map (first_map (box_map h))) (λ z. z)) (return_type_split x))
+    return_type_join (either (λ y. y) (either (second_map (first_map h)) (λ z. z)) (return_type_split x))
 
 abbrev pub parenthesized_generic_arguments_map :
     {A B : Type 0} → (A → B) → ParenthesizedGenericArguments A → ParenthesizedGenericArguments B
@@ -158,7 +158,7 @@ bound_lifetimes_map h x =
 
 abbrev pub q_self_map : {A B : Type 0} → (A → B) → QSelf A → QSelf B
 q_self_map h x =
-    record { lt_token = x.lt_token; ty = box_map h x.ty; position = x.position; as_token = x.as_token;
+    record { lt_token = x.lt_token; ty = h x.ty; position = x.position; as_token = x.as_token;
     gt_token = x.gt_token }
 
 abbrev pub trait_bound_map : {A B : Type 0} → (A → B) → TraitBound A → TraitBound B
@@ -210,8 +210,8 @@ meta_map h x =
 
 abbrev pub type_array_map : {A B : Type 0} → (A → B) → TypeArray A → TypeArray B
 type_array_map h x =
-    record { bracket_token = x.bracket_token; elem = box_map h x.elem; semi_token = x.semi_token;
-    len = box_map h x.len }
+    record { bracket_token = x.bracket_token; elem = h x.elem; semi_token = x.semi_token;
+    len = h x.len }
 
 abbrev pub fn_ptr_arg_map : {A B : Type 0} → (A → B) → FnPtrArg A → FnPtrArg B
 fn_ptr_arg_map h x = record { attrs = vec_map (attribute_map h) x.attrs; name = x.name; ty = h x.ty }
@@ -227,20 +227,20 @@ type_impl_trait_map h x =
     record { impl_token = x.impl_token; bounds = punctuated_map (type_param_bound_map h) x.bounds }
 
 abbrev pub type_paren_map : {A B : Type 0} → (A → B) → TypeParen A → TypeParen B
-type_paren_map h x = record { paren_token = x.paren_token; elem = box_map h x.elem }
+type_paren_map h x = record { paren_token = x.paren_token; elem = h x.elem }
 
 abbrev pub type_path_map : {A B : Type 0} → (A → B) → TypePath A → TypePath B
 type_path_map h x = record { qself = option_map (q_self_map h) x.qself; path = path_map h x.path }
 
 abbrev pub type_ptr_map : {A B : Type 0} → (A → B) → TypePtr A → TypePtr B
-type_ptr_map h x = record { star_token = x.star_token; mutability = x.mutability; elem = box_map h x.elem }
+type_ptr_map h x = record { star_token = x.star_token; mutability = x.mutability; elem = h x.elem }
 
 abbrev pub type_reference_map : {A B : Type 0} → (A → B) → TypeReference A → TypeReference B
 type_reference_map h x =
-    record { and_token = x.and_token; lifetime = x.lifetime; mutability = x.mutability; elem = box_map h x.elem }
+    record { and_token = x.and_token; lifetime = x.lifetime; mutability = x.mutability; elem = h x.elem }
 
 abbrev pub type_slice_map : {A B : Type 0} → (A → B) → TypeSlice A → TypeSlice B
-type_slice_map h x = record { bracket_token = x.bracket_token; elem = box_map h x.elem }
+type_slice_map h x = record { bracket_token = x.bracket_token; elem = h x.elem }
 
 abbrev pub type_trait_object_map : {A B : Type 0} → (A → B) → TypeTraitObject A → TypeTraitObject B
 type_trait_object_map h x =

@@ -90,11 +90,11 @@ pub struct ExprForLoop<E> {
     /// `for`
     pub for_token: token::For,
     /// The pattern of an element.
-    pub pat: Box<E>,
+    pub pat: E,
     /// `in`
     pub in_token: token::In,
     /// The iterator.
-    pub expr: Box<E>,
+    pub expr: E,
     /// What runs for each element.
     pub body: Block<E>,
 }
@@ -144,7 +144,7 @@ pub struct ExprWhile<E> {
     /// `while`
     pub while_token: token::While,
     /// The condition.
-    pub cond: Box<E>,
+    pub cond: E,
     /// What runs each time.
     pub body: Block<E>,
 }

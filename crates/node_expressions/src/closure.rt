@@ -35,7 +35,7 @@ pub struct ExprClosure<E> {
     /// The type of the result.
     pub output: ReturnType<E>,
     /// What it answers.
-    pub body: Box<E>,
+    pub body: E,
 }
 
 /// What stands beside the parts of a closure: nothing.

@@ -43,9 +43,9 @@ pub struct LocalInit<E> {
     /// `=`
     pub eq_token: token::Eq,
     /// The value.
-    pub expr: Box<E>,
+    pub expr: E,
     /// `else` and the block that runs where the pattern doesn't match, if they are there.
-    pub diverge: Option<(token::Else, Box<E>)>,
+    pub diverge: Option<(token::Else, E)>,
 }
 
 /// What stands beside the parts of a variable: nothing.

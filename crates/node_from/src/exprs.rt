@@ -34,11 +34,11 @@ pub fn expression<E: Drop, R: Reader<E>>(
     below: &R,
     position: Position,
     tree: &Tree<'_>,
-) -> Result<Box<E>, AllocError>
+) -> Result<E, AllocError>
     requires ready { R.ready below.now }
     requires shaped { IsShaped tree.now (g.ref (k.Expression (position_of position))) }
     requires fewer { node_count tree.now ≤ R.bound below.now }
-    ensures { IfOk result (λ x. words.expression (R.view x.value) ≡ kept tree.now) }
+    ensures { IfOk result (λ x. words.expression (R.view x) ≡ kept tree.now) }
 {
     let form = take::whole(take::node(Kind::Expression(position), tree));
     child(below, What::Form, form)

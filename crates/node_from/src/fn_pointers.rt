@@ -33,11 +33,11 @@ fn returned<E: Drop, R: Reader<E>>(
     below: &R,
     plus: Plus,
     tree: &Tree<'_>,
-) -> Result<Box<E>, AllocError>
+) -> Result<E, AllocError>
     requires ready { R.ready below.now }
     requires shaped { IsShaped tree.now (g.ref (k.AType (plus_of plus))) }
     requires fewer { node_count tree.now < R.bound below.now }
-    ensures { IfOk result (λ x. R.view x.value ≡ kept tree.now) }
+    ensures { IfOk result (λ x. R.view x ≡ kept tree.now) }
 {
     match plus {
         Plus::WithPlus => child(below, What::WithPlus, tree),

@@ -90,7 +90,7 @@ pub trait Reader<E> {
         ensures { IfOk result (λ x. view x ≡ made what (kept tree.now)) };
 }
 
-/// A child: the node that a tree is, in a place of its own.
+/// A child: the node that a tree is.
 ///
 /// # Errors
 ///
@@ -99,12 +99,11 @@ pub fn child<E: Drop, R: Reader<E>>(
     below: &R,
     what: What,
     tree: &Tree<'_>,
-) -> Result<Box<E>, AllocError>
+) -> Result<E, AllocError>
     requires ready { R.ready below.now }
     requires shaped { IsWhat what tree.now }
     requires fewer { node_count tree.now < R.bound below.now }
-    ensures { IfOk result (λ x. R.view x.value ≡ made what (kept tree.now)) }
+    ensures { IfOk result (λ x. R.view x ≡ made what (kept tree.now)) }
 {
-    let node = below.node(what, tree)?;
-    Ok(Box::new(below.alloc(), node)?)
+    Ok(below.node(what, tree)?)
 }

@@ -45,12 +45,20 @@ use std::alloc::AllocError;
 /// What makes nodes of smaller trees, and of what a node is.
 pub trait Maker<E>: Reader<E> {
     /// The expression of a form.
-    fn expression(&self, form: Expr<E>) -> E
-        ensures { Self.view result ≡ expressions.expr Self.view form };
+    ///
+    /// # Errors
+    ///
+    /// Where there is no memory for it.
+    fn expression(&self, form: Expr<E>) -> Result<E, AllocError>
+        ensures { IfOk result (λ x. Self.view x ≡ expressions.expr Self.view form) };
 
     /// The pattern that one is.
-    fn pattern(&self, pattern: Pat<E>) -> E
-        ensures { Self.view result ≡ patterns.pat Self.view pattern };
+    ///
+    /// # Errors
+    ///
+    /// Where there is no memory for it.
+    fn pattern(&self, pattern: Pat<E>) -> Result<E, AllocError>
+        ensures { IfOk result (λ x. Self.view x ≡ patterns.pat Self.view pattern) };
 
     /// The pattern that a smaller tree is, with attributes in front of it.
     ///

@@ -27,7 +27,7 @@ use syn_kinds::token;
 fn subpattern<E: Drop, R: Maker<E>>(
     below: &R,
     tree: &Tree<'_>,
-) -> Result<Option<(token::At, Box<E>)>, AllocError>
+) -> Result<Option<(token::At, E)>, AllocError>
     requires ready { R.ready below.now }
     requires shaped { IsShaped tree.now subpattern_entry }
     requires fewer { node_count tree.now ≤ R.bound below.now }

@@ -36,7 +36,7 @@ use syn_leaf::operators::{BinOp, RangeLimits};
 pub fn optional_operand<E: Drop, R: Maker<E>>(
     below: &R,
     operand: Option<&Tree<'_>>,
-) -> Result<Option<Box<E>>, AllocError>
+) -> Result<Option<E>, AllocError>
     requires ready { R.ready below.now }
     requires operand { MayBeMade (R.bound below.now) operand }
     ensures { IfOk result (λ x. held R.view x ≡ kept_of operand.entry) }
@@ -82,14 +82,14 @@ pub fn expr_range<E: Drop, R: Maker<E>>(
 #[tactic(auto, using(crate::proofs::NothingStands::nothing), unfolding(syn_grammar::specs::Table::table, syn_grammar::specs::Kept::held, syn_kinds::specs::Table::marks, syn_kinds::specs::Table::sign, syn_kinds::specs::Table::word))]
 pub fn expr_cast<E: Drop, R: Maker<E>>(
     below: &R,
-    expr: Box<E>,
+    expr: E,
     own: &Tree<'_>,
 ) -> Result<ExprCast<E>, AllocError>
     requires ready { R.ready below.now }
     requires own { IsShaped own.now (table k.ExprCast) }
     requires fewer { node_count own.now ≤ R.bound below.now }
     ensures { IfOk result (λ x. views.expr_cast R.view x
-        ≡ t.Back (R.view expr.value) k.ExprCast (kept own.now)) }
+        ≡ t.Back (R.view expr) k.ExprCast (kept own.now)) }
 {
     let (as_token, ty, _) = take::three(own);
     let ty = child(below, What::WithoutPlus, take::called(ty))?;
@@ -233,13 +233,13 @@ fn operator(which: Between, own: &Tree<'_>) -> BinOp
 // An assignment between operands.
 fn assignment<E: Drop, R: Maker<E>>(
     below: &R,
-    left: Box<E>,
+    left: E,
     own: &Tree<'_>,
-    right: Box<E>,
+    right: E,
 ) -> Expr<E>
     requires { IsShaped own.now (table k.ExprAssign) }
     ensures { views.expr R.view result
-        ≡ t.Infix (R.view left.value) k.ExprAssign (kept own.now) (R.view right.value) }
+        ≡ t.Infix (R.view left) k.ExprAssign (kept own.now) (R.view right) }
 {
     let attrs = Vec::new(below.alloc());
     match assign_op(own) {
@@ -261,15 +261,15 @@ fn assignment<E: Drop, R: Maker<E>>(
 /// An operator between two operands, other than a range's.
 pub fn infix<E: Drop, R: Maker<E>>(
     below: &R,
-    left: Box<E>,
+    left: E,
     which: Between,
     own: &Tree<'_>,
-    right: Box<E>,
+    right: E,
 ) -> Expr<E>
     requires which { is_range which ≡ false }
     requires own { IsShaped own.now (table (between_kind which)) }
     ensures { views.expr R.view result
-        ≡ t.Infix (R.view left.value) (between_kind which) (kept own.now) (R.view right.value) }
+        ≡ t.Infix (R.view left) (between_kind which) (kept own.now) (R.view right) }
 {
     match which {
         Between::Range | Between::RangeClosed => unreachable!(),

@@ -42,7 +42,7 @@ pub fn closure_param<E: Drop, R: Maker<E>>(below: &R, tree: &Tree<'_>) -> Result
                 pat,
                 colon_token: take::sign(colon_token),
                 ty,
-            })))
+            }))?)
         }
         None => below.attributed_pattern(attrs, pattern),
     }

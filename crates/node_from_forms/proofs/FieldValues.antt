@@ -1,7 +1,5 @@
 -- Fields with their values in braces, of which the last may be a .. .
 use Rattle.std.specs.Prelude.{◌≡◌, ◌++◌, Bool, true, false, not, List, [], ◌∷◌, Option, Some, None, length, refl}
-use Rattle.std.specs.declared.alloc.Global.{Global}
-use Rattle.std.specs.declared.boxed.Box.{Box}
 use Rattle.std.proofs.Common.{ap, subst, sym, ◌∙◌}
 use Rattle.std.proofs.lemmas.Bool.{false≢true}
 use denote.Bor.{Bor}
@@ -65,7 +63,7 @@ both : (b : Bool) → b ≡ true → not b ≡ true → ⊥
 both true e h = absurd (false≢true h)
 both false e h = absurd (false≢true e)
 
-pub no_field : {E : Type 0} (e : Entry E) (m : Punctuation 10 2) (x : Option (Box E Global)) (y : Tree)
+pub no_field : {E : Type 0} (e : Entry E) (m : Punctuation 10 2) (x : Option E) (y : Tree)
     → e ≡ entries.Base m x → IsBaseOf e y → not (is_base y) ≡ true → ⊥
 no_field (entries.Base n z) m x y e h b = both (is_base y) h b
 no_field (entries.Field z) m x y e h b = cc e
@@ -74,7 +72,7 @@ pub field_of : {E : Type 0} (f : E → Tree) (e : Entry E) (x : FieldValue E) (y
     → entry_tree f e ≡ y → a_field_value f x ≡ y
 field_of f e x y p h = ap (entry_tree f) (sym p) ∙ h
 
-pub base_of : {E : Type 0} (f : E → Tree) (e : Entry E) (m : Punctuation 10 2) (x : Option (Box E Global)) (y : Tree)
+pub base_of : {E : Type 0} (f : E → Tree) (e : Entry E) (m : Punctuation 10 2) (x : Option E) (y : Tree)
     → e ≡ entries.Base m x → entry_tree f e ≡ y → field_base f (Some m) x ≡ y
 base_of f e m x y p h = ap (entry_tree f) (sym p) ∙ h
 
@@ -122,8 +120,8 @@ one_more f l m v i es o x e d n h p q r =
     picked_before 44 (a_field_value f) l.values.items m.values.items v l.separators.items m.separators.items
     (kept x.now) (kept i) n p q r (h (t.Final x.now) ∙ ended i es o (Some x) e d)
 
-pub then_base : {E P A : Type 0} (f : E → Tree) (l : Punctuated (FieldValue E) P) (m : Punctuation 10 2)
-    (v : Option (Box E A)) (i : Tree) (es : List Element) (o : Option (Bor Tree)) (x : Bor Tree)
+pub then_base : {E P : Type 0} (f : E → Tree) (l : Punctuated (FieldValue E) P) (m : Punctuation 10 2)
+    (v : Option E) (i : Tree) (es : List Element) (o : Option (Bor Tree)) (x : Bor Tree)
     → i ≡ elements 44 es (ending (λ b. b.now) o) → o ≡ Some x → Picked (a_field_value f) l.values.items es
     → field_base f (Some m) v ≡ kept x.now → fields_then f l (Some m) v ≡ kept i
 then_base f l m v i es o x e d h r =

@@ -30,20 +30,20 @@ use syn_kinds::token;
 // What stands behind `else`: another `if`, or a block.
 #[cycle(choosing)]
 #[tactic(auto, using(crate::proofs::BlockForms::blocks), unfolding(syn_grammar::specs::Table::table, syn_grammar::specs::Kept::held, syn_kinds::specs::Table::marks, syn_kinds::specs::Table::sign, syn_kinds::specs::Table::word))]
-fn else_operand<E: Drop, R: Maker<E>>(below: &R, tree: &Tree<'_>) -> Result<Box<E>, AllocError>
+fn else_operand<E: Drop, R: Maker<E>>(below: &R, tree: &Tree<'_>) -> Result<E, AllocError>
     requires ready { R.ready below.now }
     requires shaped { IsShaped tree.now else_operand_entry }
     requires fewer { node_count tree.now ≤ R.bound below.now }
-    ensures { IfOk result (λ x. views.else_operand (R.view x.value) ≡ kept tree.now) }
+    ensures { IfOk result (λ x. views.else_operand (R.view x) ≡ kept tree.now) }
 {
     match take::alternative(1, tree) {
         (0, other) => {
             let form = Expr::If(expr_if(below, take::node(Kind::ExprIf, other))?);
-            Ok(Box::new(below.alloc(), below.expression(form))?)
+            Ok(below.expression(form)?)
         }
         (_, last) => {
             let form = Expr::Block(plain_block(below, last)?);
-            Ok(Box::new(below.alloc(), below.expression(form))?)
+            Ok(below.expression(form)?)
         }
     }
 }
@@ -54,7 +54,7 @@ fn else_operand<E: Drop, R: Maker<E>>(below: &R, tree: &Tree<'_>) -> Result<Box<
 fn else_branch<E: Drop, R: Maker<E>>(
     below: &R,
     tree: &Tree<'_>,
-) -> Result<Option<(token::Else, Box<E>)>, AllocError>
+) -> Result<Option<(token::Else, E)>, AllocError>
     requires ready { R.ready below.now }
     requires shaped { IsShaped tree.now else_branch_entry }
     requires fewer { node_count tree.now ≤ R.bound below.now }
@@ -101,7 +101,7 @@ pub fn expr_if<E: Drop, R: Maker<E>>(below: &R, own: &Tree<'_>) -> Result<ExprIf
 fn guard<E: Drop, R: Maker<E>>(
     below: &R,
     tree: &Tree<'_>,
-) -> Result<Option<(token::If, Box<E>)>, AllocError>
+) -> Result<Option<(token::If, E)>, AllocError>
     requires ready { R.ready below.now }
     requires shaped { IsShaped tree.now guard_entry }
     requires fewer { node_count tree.now ≤ R.bound below.now }

@@ -30,13 +30,13 @@ fn with_head<E: Drop, R: Maker<E>>(
     below: &R,
     head: &Tree<'_>,
     output: ReturnType<E>,
-    body: Box<E>,
+    body: E,
 ) -> Result<ExprClosure<E>, AllocError>
     requires ready { R.ready below.now }
     requires head { IsShaped head.now (table k.ExprClosure) }
     requires fewer { node_count head.now ≤ R.bound below.now }
     ensures { IfOk result (λ x. views.expr_closure R.view x
-        ≡ views.closure R.view output (kept head.now) (R.view body.value)) }
+        ≡ views.closure R.view output (kept head.now) (R.view body)) }
 {
     let (lifetimes, constness, movability, asyncness, capture, or1_token, inputs, or2_token) =
         take::eight(head);
@@ -99,6 +99,6 @@ pub fn expr_typed_closure<E: Drop, R: Maker<E>>(
     let (head, output, inside) = take::three(own);
     let output = return_type(below, Plus::WithPlus, output)?;
     let block = Expr::Block(plain_block(below, inside)?);
-    let body = Box::new(below.alloc(), below.expression(block))?;
+    let body = below.expression(block)?;
     with_head(below, head, output, body)
 }

@@ -35,14 +35,14 @@ use syn_leaf::member::{Index, Member};
 #[tactic(auto, using(crate::proofs::FieldTexts::all_indices), unfolding(syn_kinds::specs::Table::marks, syn_kinds::specs::Table::sign))]
 fn field_of_text<E: Drop, R: Maker<E>>(
     below: &R,
-    base: Box<E>,
+    base: E,
     dot_token: token::Dot,
     text: &str,
     span: Span,
 ) -> Result<ExprField<E>, AllocError>
     requires { are_indices (chars text.now) ≡ true }
     ensures { IfOk result (λ x. views.expr_field R.view x
-        ≡ index_fields (R.view base.value) (indices (chars text.now))) }
+        ≡ index_fields (R.view base) (indices (chars text.now))) }
 {
     let Some((index, left)) = integer(text) else {
         unreachable!()
@@ -59,7 +59,7 @@ fn field_of_text<E: Drop, R: Maker<E>>(
     match first_char(behind) {
         None => Ok(field),
         Some(_) => {
-            let base = Box::new(below.alloc(), below.expression(Expr::Field(field)))?;
+            let base = below.expression(Expr::Field(field))?;
             field_of_text(below, base, Punctuation::new([span]), behind, span)
         }
     }
@@ -71,12 +71,12 @@ fn front_fields<E: Drop, R: Maker<E>>(
     left: &Tree<'_>,
     dot_token: token::Dot,
     numbers: &Tree<'_>,
-) -> Result<(Box<E>, token::Dot), AllocError>
+) -> Result<(E, token::Dot), AllocError>
     requires ready { R.ready below.now }
     requires left { AreForms left.now }
     requires numbers { IsShaped numbers.now indices_of }
     requires left_fewer { node_count left.now < R.bound below.now }
-    ensures { IfOk result (λ r. R.view r.0.value ≡ fields_in_front (kept left.now) (kept numbers.now)) }
+    ensures { IfOk result (λ r. R.view r.0 ≡ fields_in_front (kept left.now) (kept numbers.now)) }
 {
     let mut dot_token = dot_token;
     let mut base = child(below, What::Form, left)?;
@@ -84,7 +84,7 @@ fn front_fields<E: Drop, R: Maker<E>>(
     for number in each {
         let literal = take::literal(number)?;
         let field = field_of_text(below, base, dot_token, literal.as_str(), literal.span())?;
-        base = Box::new(below.alloc(), below.expression(Expr::Field(field)))?;
+        base = below.expression(Expr::Field(field))?;
         dot_token = Punctuation::new([literal.span()]);
     }
     Ok((base, dot_token))

@@ -41,7 +41,7 @@ pub enum Entry<E> {
     /// A field.
     Field(FieldValue<E>),
     /// `..`, and what the other fields are taken from, if it is there.
-    Base(token::DotDot, Option<Box<E>>),
+    Base(token::DotDot, Option<E>),
 }
 
 /// The fields in braces.
@@ -54,7 +54,7 @@ pub struct Values<E> {
     /// `..` behind the fields, if it is there.
     pub dot2_token: Option<token::DotDot>,
     /// What the other fields are taken from, if it is there.
-    pub rest: Option<Box<E>>,
+    pub rest: Option<E>,
 }
 
 // A field whose value is the variable of its name, behind its attributes.
@@ -133,7 +133,7 @@ pub fn field_value<E: Drop, R: Maker<E>>(
 fn base_value<E: Drop, R: Maker<E>>(
     below: &R,
     tree: &Tree<'_>,
-) -> Result<Option<Box<E>>, AllocError>
+) -> Result<Option<E>, AllocError>
     requires ready { R.ready below.now }
     requires shaped { IsShaped tree.now base_value }
     requires fewer { node_count tree.now ≤ R.bound below.now }

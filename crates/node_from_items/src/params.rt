@@ -124,7 +124,7 @@ pub enum Param<E> {
 // Any number of arguments more, without a comma behind it.
 fn dots<E>(
     attrs: Vec<Attribute<E>>,
-    pat: Option<(Box<E>, token::Colon)>,
+    pat: Option<(E, token::Colon)>,
     dots: token::DotDotDot,
 ) -> Param<E>
     ensures { result ≡ params.Dots (record { attrs = attrs; pat = pat; dots = dots; comma = None }) }

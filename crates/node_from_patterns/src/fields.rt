@@ -101,7 +101,7 @@ fn short_field<E: Drop, R: Maker<E>>(
         attrs,
         member,
         colon_token: None,
-        pat: Box::new(below.alloc(), below.pattern(pattern))?,
+        pat: below.pattern(pattern)?,
     })
 }
 

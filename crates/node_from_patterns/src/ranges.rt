@@ -49,20 +49,20 @@ pub fn pat_path<E: Drop, R: Maker<E>>(below: &R, tree: &Tree<'_>) -> Result<PatP
 ///
 /// Where there is no memory for it.
 #[tactic(auto, using(crate::proofs::RangeBounds::bounds), unfolding(syn_grammar::specs::Table::table, syn_grammar::specs::Kept::held, syn_kinds::specs::Table::marks, syn_kinds::specs::Table::sign, syn_kinds::specs::Table::word))]
-pub fn range_bound<E: Drop, R: Maker<E>>(below: &R, tree: &Tree<'_>) -> Result<Box<E>, AllocError>
+pub fn range_bound<E: Drop, R: Maker<E>>(below: &R, tree: &Tree<'_>) -> Result<E, AllocError>
     requires ready { R.ready below.now }
     requires shaped { IsShaped tree.now (g.ref k.RangeBound) }
     requires fewer { node_count tree.now ≤ R.bound below.now }
-    ensures { IfOk result (λ x. views.range_bound (R.view x.value) ≡ kept tree.now) }
+    ensures { IfOk result (λ x. views.range_bound (R.view x) ≡ kept tree.now) }
 {
     match take::alternative(1, take::node(Kind::RangeBound, tree)) {
         (0, literal) => {
             let pattern = Pat::Lit(pat_lit(below, literal)?);
-            Ok(Box::new(below.alloc(), below.pattern(pattern))?)
+            Ok(below.pattern(pattern)?)
         }
         (_, path) => {
             let pattern = Pat::Path(pat_path(below, path)?);
-            Ok(Box::new(below.alloc(), below.pattern(pattern))?)
+            Ok(below.pattern(pattern)?)
         }
     }
 }
@@ -72,7 +72,7 @@ pub fn range_bound<E: Drop, R: Maker<E>>(below: &R, tree: &Tree<'_>) -> Result<B
 fn optional_bound<E: Drop, R: Maker<E>>(
     below: &R,
     tree: &Tree<'_>,
-) -> Result<Option<Box<E>>, AllocError>
+) -> Result<Option<E>, AllocError>
     requires ready { R.ready below.now }
     requires shaped { ((test : List Token → Bool) × IsShaped tree.now (g.alt test (g.ref k.RangeBound) g.nothing)) }
     requires fewer { node_count tree.now ≤ R.bound below.now }
@@ -89,7 +89,7 @@ fn optional_bound<E: Drop, R: Maker<E>>(
 fn range_end<E: Drop, R: Maker<E>>(
     below: &R,
     tree: &Tree<'_>,
-) -> Result<(RangeLimits, Option<Box<E>>), AllocError>
+) -> Result<(RangeLimits, Option<E>), AllocError>
     requires ready { R.ready below.now }
     requires shaped { IsShaped tree.now (g.ref k.RangeEnd) }
     requires fewer { node_count tree.now ≤ R.bound below.now }
@@ -127,7 +127,7 @@ pub fn range_from<E: Drop, R: Maker<E>>(
         ≡ views.range_from (views.range_bound (views.pat R.view start)) (kept end.now)) }
 {
     let (limits, end) = range_end(below, end)?;
-    let start = Box::new(below.alloc(), below.pattern(start))?;
+    let start = below.pattern(start)?;
     Ok(PatRange {
         attrs: Vec::new(below.alloc()),
         start: Some(start),

@@ -1,6 +1,5 @@
 -- Variables: their patterns, and the values before else.
 use Rattle.std.specs.Prelude.{◌≡◌, ℕ, Bool, true, false, not, ◌&&◌, List, [], Option, Some, None, cond, refl}
-use Rattle.std.specs.declared.boxed.Box.{Box}
 use Rattle.std.proofs.Common.{ap, subst, sym, ◌∙◌}
 use Rattle.std.proofs.lemmas.Bool.{false≢true}
 use Rattle.syn_grammar.specs.Gram.{Keep, mark, ref, word}
@@ -147,7 +146,7 @@ value_form v h =
 closed_open : (x : Tree) → ends_in_braces (flat x) ≡ false → closed x ≡ x
 closed_open x e = ap (λ b. cond b (in_parens x) x) e
 
-value_is : {E A : Type 0} (f : E → Tree) (d : Option (Keyword 12 × Box E A)) (y m v o : Tree)
+value_is : {E : Type 0} (f : E → Tree) (d : Option (Keyword 12 × E)) (y m v o : Tree)
     → IsShaped (First (Pair m (Pair (Called the_value v) o))) initial
     → is_let (First (Pair m (Pair (Called the_value v) o))) ≡ true → expression y ≡ kept v
     → optional (diverge f) d ≡ kept o → expression (let_value d y) ≡ kept v
@@ -163,7 +162,7 @@ value_is f (Some d) y m v o h c e p =
     ap expression (closed_open y (ap (λ u. ends_in_braces (flat u)) w ∙ open_kept q.0 q.1 s)) ∙ e
 
 -- the same of a tree, of its parts
-pub value_held : {E A : Type 0} (f : E → Tree) (d : Option (Keyword 12 × Box E A)) (y x b m w v o : Tree)
+pub value_held : {E : Type 0} (f : E → Tree) (d : Option (Keyword 12 × E)) (y x b m w v o : Tree)
     → x ≡ First b → b ≡ Pair m (Pair w o) → ((n : Part) × (w ≡ Called n v)) → IsShaped x initial → is_let x ≡ true
     → expression y ≡ kept v → optional (diverge f) d ≡ kept o → expression (let_value d y) ≡ kept v
 value_held f d y x b m w v o e g q h c p r =

@@ -67,7 +67,7 @@ pub fn attributed_form<E: Drop, R: Maker<E>>(
         Formed::Behind(left, which, own) => match which {
             Behind::Cast => {
                 let first = attributed_form(below, attrs, left)?;
-                let left = Box::new(below.alloc(), below.expression(first))?;
+                let left = below.expression(first)?;
                 Ok(Expr::Cast(expr_cast(below, left, own)?))
             }
             _ => kept_here(below, attrs, tree),
@@ -76,7 +76,7 @@ pub fn attributed_form<E: Drop, R: Maker<E>>(
             Between::Range | Between::RangeClosed => kept_here(below, attrs, tree),
             _ => {
                 let first = attributed_form(below, attrs, left)?;
-                let left = Box::new(below.alloc(), below.expression(first))?;
+                let left = below.expression(first)?;
                 let right = child(below, What::Form, right)?;
                 Ok(infix(below, left, which, own, right))
             }

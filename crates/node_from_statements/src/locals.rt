@@ -55,7 +55,7 @@ fn local_pattern<E: Drop, R: Maker<E>>(
                 colon_token: take::sign(colon_token),
                 ty,
             });
-            Ok(below.pattern(typed))
+            Ok(below.pattern(typed)?)
         }
         None => below.node(What::OnePattern, pattern),
     }
@@ -66,7 +66,7 @@ fn local_pattern<E: Drop, R: Maker<E>>(
 fn diverge<E: Drop, R: Maker<E>>(
     below: &R,
     tree: &Tree<'_>,
-) -> Result<Option<(token::Else, Box<E>)>, AllocError>
+) -> Result<Option<(token::Else, E)>, AllocError>
     requires ready { R.ready below.now }
     requires shaped { IsShaped tree.now else_part }
     requires fewer { node_count tree.now ≤ R.bound below.now }
@@ -76,7 +76,7 @@ fn diverge<E: Drop, R: Maker<E>>(
         Some(behind) => {
             let (else_token, inside) = take::pair(take::called(behind));
             let block = Expr::Block(plain_block(below, inside)?);
-            let block = Box::new(below.alloc(), below.expression(block))?;
+            let block = below.expression(block)?;
             Ok(Some((take::keyword(else_token), block)))
         }
         None => Ok(None),

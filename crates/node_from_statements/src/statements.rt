@@ -79,7 +79,7 @@ fn plain_stmt<E: Drop, R: Maker<E>>(
         (words.optional views.semicolon semi_token))) }
 {
     let made = attributed_form(below, attrs, form)?;
-    Ok(Stmt::Expr(below.expression(made), semi_token))
+    Ok(Stmt::Expr(below.expression(made)?, semi_token))
 }
 
 // An expression as a statement: a macro before `;` is a statement of its own, and attributes in front belong to the
@@ -159,7 +159,7 @@ pub fn block_stmt<E: Drop, R: Maker<E>>(below: &R, tree: &Tree<'_>) -> Result<St
     match take::alternative(1, tree) {
         (0, mark) => {
             let nothing = Expr::Verbatim(TokenStream::new(below.alloc()));
-            Ok(Stmt::Expr(below.expression(nothing), Some(take::sign(mark))))
+            Ok(Stmt::Expr(below.expression(nothing)?, Some(take::sign(mark))))
         }
         (_, statement) => stmt(below, statement),
     }

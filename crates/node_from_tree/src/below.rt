@@ -1,6 +1,6 @@
 //! What makes the nodes in one.
 
-ghost use Rattle.node_closed.specs.Views.{item_view, node_view};
+ghost use Rattle.node_closed.specs.Views.{item_view, kind_view, node_view};
 ghost use Rattle.node_from_bodies.specs.StatementParts.{a_statement};
 ghost use Rattle.node_from_tree.specs.Nests.{MakesNodes, MakesPatterns, MakesStatements};
 ghost use Rattle.node_shapes.specs.Shape.{IsShaped};
@@ -27,7 +27,7 @@ use node_items::{
 };
 use node_paths::attribute::Attribute;
 use node_patterns::Pat;
-use node_tree::{Item, Node};
+use node_tree::{Item, Node, NodeKind};
 use proc_macro2::tree::TokenStream;
 use reader_tree::tree::Tree;
 use std::alloc::{AllocError, Global};
@@ -81,16 +81,16 @@ impl<
     S: Fn(Global, &Tree<'_>) -> Result<Stmt<Node>, AllocError>,
 > Maker<Node> for Below<'t, 'a, N, P, S>
 {
-    fn expression(&self, form: Expr<Node>) -> Node
-        ensures { node_view result ≡ expressions.expr node_view form }
+    fn expression(&self, form: Expr<Node>) -> Result<Node, AllocError>
+        ensures { IfOk result (λ x. node_view x ≡ expressions.expr node_view form) }
     {
-        Node::Expr(form)
+        of_kind(self.alloc, NodeKind::Expr(form))
     }
 
-    fn pattern(&self, pattern: Pat<Node>) -> Node
-        ensures { node_view result ≡ patterns.pat node_view pattern }
+    fn pattern(&self, pattern: Pat<Node>) -> Result<Node, AllocError>
+        ensures { IfOk result (λ x. node_view x ≡ patterns.pat node_view pattern) }
     {
-        Node::Pat(pattern)
+        of_kind(self.alloc, NodeKind::Pat(pattern))
     }
 
     fn attributed_pattern(
@@ -118,12 +118,24 @@ impl<
     }
 }
 
-// An item, in a place of its own.
+/// The node of what it is.
+///
+/// # Errors
+///
+/// Where there is no memory for it.
+#[tactic(auto, using(node_closed::proofs::Equations::view_node))]
+pub fn of_kind(alloc: Global, kind: NodeKind) -> Result<Node, AllocError>
+    ensures { IfOk result (λ x. node_view x ≡ kind_view kind) }
+{
+    Ok(Node::new(alloc, kind)?)
+}
+
+// The node of an item.
 #[tactic(auto, using(node_closed::proofs::Equations::node_equations))]
 fn placed(alloc: Global, item: Item) -> Result<Node, AllocError>
     ensures { IfOk result (λ x. node_view x ≡ item_view item) }
 {
-    Ok(Node::Item(Box::new(alloc, item)?))
+    Ok(of_kind(alloc, NodeKind::Item(item))?)
 }
 
 #[tactic(auto, using(node_closed::proofs::Equations::item_equations))]

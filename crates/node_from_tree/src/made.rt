@@ -12,7 +12,7 @@ ghost use Rattle.syn_grammar.specs.Gram as g;
 ghost use Rattle.syn_grammar.specs.Kept.{kept};
 ghost use Rattle.syn_grammar.specs.Kind as k;
 
-use crate::below::Below;
+use crate::below::{Below, of_kind};
 use crate::metas::meta;
 use node_expressions::expr::Expr;
 use node_expressions::statement::Stmt;
@@ -27,7 +27,7 @@ use node_from_patterns::dispatch as from_patterns;
 use node_from_statements::statements::block_stmt;
 use node_paths::attribute::Attribute;
 use node_patterns::Pat;
-use node_tree::Node;
+use node_tree::{Node, NodeKind};
 use reader_table::kind::Plus;
 use reader_tree::tree::Tree;
 use std::alloc::{AllocError, Global};
@@ -43,19 +43,19 @@ fn node_by<R: ItemMaker<Node>>(below: &R, what: What, tree: &Tree<'_>) -> Result
     ensures { IfOk result (λ x. node_view x ≡ made what (kept tree.now)) }
 {
     match what {
-        What::WithPlus => Ok(Node::Type(type_(below, Plus::WithPlus, tree)?)),
-        What::WithoutPlus => Ok(Node::Type(type_(below, Plus::WithoutPlus, tree)?)),
-        What::Form => Ok(Node::Expr(form(below, tree)?)),
-        What::Literal => Ok(Node::Expr(Expr::Lit(expr_lit(below, tree)?))),
-        What::Block => Ok(Node::Expr(Expr::Block(expr_body(below, tree)?))),
-        What::Name => Ok(Node::Expr(Expr::Path(expr_name(below, tree)?))),
-        What::Meta => Ok(Node::Meta(Box::new(below.alloc(), meta(below, tree)?)?)),
+        What::WithPlus => Ok(of_kind(below.alloc(), NodeKind::Type(type_(below, Plus::WithPlus, tree)?))?),
+        What::WithoutPlus => Ok(of_kind(below.alloc(), NodeKind::Type(type_(below, Plus::WithoutPlus, tree)?))?),
+        What::Form => Ok(of_kind(below.alloc(), NodeKind::Expr(form(below, tree)?))?),
+        What::Literal => Ok(of_kind(below.alloc(), NodeKind::Expr(Expr::Lit(expr_lit(below, tree)?)))?),
+        What::Block => Ok(of_kind(below.alloc(), NodeKind::Expr(Expr::Block(expr_body(below, tree)?)))?),
+        What::Name => Ok(of_kind(below.alloc(), NodeKind::Expr(Expr::Path(expr_name(below, tree)?)))?),
+        What::Meta => Ok(of_kind(below.alloc(), NodeKind::Meta(meta(below, tree)?))?),
         What::Item => Ok(item(below, tree)?),
-        What::OnePattern => Ok(Node::Pat(from_patterns::one_pattern(below, tree)?)),
-        What::Pattern => Ok(Node::Pat(from_patterns::pattern(below, tree)?)),
+        What::OnePattern => Ok(of_kind(below.alloc(), NodeKind::Pat(from_patterns::one_pattern(below, tree)?))?),
+        What::Pattern => Ok(of_kind(below.alloc(), NodeKind::Pat(from_patterns::pattern(below, tree)?))?),
         What::Wild => {
             let wild = from_patterns::left_out(below, Underscore::default().span);
-            Ok(Node::Pat(Pat::Wild(wild)))
+            Ok(of_kind(below.alloc(), NodeKind::Pat(Pat::Wild(wild)))?)
         }
     }
 }
@@ -101,7 +101,8 @@ pub fn attributed_pattern(
         pattern: attributed_pattern,
         statement,
     };
-    Ok(Node::Pat(from_patterns::attributed_pattern(&below, attrs, tree)?))
+    let pattern = from_patterns::attributed_pattern(&below, attrs, tree)?;
+    Ok(of_kind(alloc, NodeKind::Pat(pattern))?)
 }
 
 /// The statement that a tree is, among others; a lone `;` is one too.

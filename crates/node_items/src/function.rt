@@ -124,7 +124,7 @@ pub enum ReceiverKind<E> {
     /// By reference: `&self` or `&'a mut self`.
     Reference(token::And, Option<Lifetime>, Option<token::Mut>),
     /// By a type that is written: `self: Box<Self>`.
-    Typed(token::Colon, Box<E>),
+    Typed(token::Colon, E),
 }
 
 /// Any number of arguments more: `args: ...`.
@@ -133,7 +133,7 @@ pub struct Variadic<E> {
     /// The attributes in front of it.
     pub attrs: Vec<Attribute<E>>,
     /// A pattern for them and `:`, if they are there.
-    pub pat: Option<(Box<E>, token::Colon)>,
+    pub pat: Option<(E, token::Colon)>,
     /// `...`
     pub dots: token::DotDotDot,
     /// `,`, if it is there.

@@ -30,7 +30,7 @@ pub struct ItemConst<E> {
     /// `=`
     pub eq_token: token::Eq,
     /// Its value.
-    pub expr: Box<E>,
+    pub expr: E,
     /// `;`
     pub semi_token: token::Semi,
 }
@@ -55,7 +55,7 @@ pub struct ItemStatic<E> {
     /// `=`
     pub eq_token: token::Eq,
     /// Its value.
-    pub expr: Box<E>,
+    pub expr: E,
     /// `;`
     pub semi_token: token::Semi,
 }

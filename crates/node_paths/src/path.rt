@@ -91,7 +91,7 @@ pub enum ReturnType<E> {
     /// Nothing is written: `()`, or for a closure what its body is.
     Default,
     /// `->` and a type.
-    Type(token::RArrow, Box<E>),
+    Type(token::RArrow, E),
 }
 
 impl<E> Default for ReturnType<E> {
@@ -109,7 +109,7 @@ pub struct QSelf<E> {
     /// `<`
     pub lt_token: token::Lt,
     /// The type in front.
-    pub ty: Box<E>,
+    pub ty: E,
     /// How many segments of the path stand before the `>`: 0 where there is no `as`.
     pub position: usize,
     /// `as`, if it is there.

@@ -20,11 +20,3 @@ pub trait ToTree {
     fn to_tree<'a>(&'a self, arena: &'a Arena) -> Result<Tree<'a>, AllocError>
         ensures { IfOk result (λ x. x ≡ tree self.now) };
 }
-
-impl<E: ToTree> ToTree for Box<E> {
-    ghost tree = { λ x. E.tree x.value };
-
-    fn to_tree<'a>(&'a self, arena: &'a Arena) -> Result<Tree<'a>, AllocError> {
-        (**self).to_tree(arena)
-    }
-}

@@ -30,10 +30,10 @@ use syn_kinds::token;
 fn behind_else<'a, E: ToTree>(
     arena: &'a Arena,
     token: &'a token::Else,
-    operand: &'a Box<E>,
+    operand: &'a E,
 ) -> Result<Tree<'a>, AllocError>
     ensures { IfOk result (λ x. x ≡ t.Pair (words.keyword token.now)
-        (views.else_operand (E.tree operand.now.value))) }
+        (views.else_operand (E.tree operand.now))) }
 {
     let operand = else_operand_of(arena, operand);
     pair(arena, token.to_tree(arena), operand)
@@ -94,10 +94,10 @@ pub fn expr_let<'a, E: ToTree>(
 fn behind_if<'a, E: ToTree>(
     arena: &'a Arena,
     token: &'a token::If,
-    value: &'a Box<E>,
+    value: &'a E,
 ) -> Result<Tree<'a>, AllocError>
     ensures { IfOk result (λ x. x ≡ t.Pair (words.keyword token.now)
-        (words.expression (E.tree value.now.value))) }
+        (words.expression (E.tree value.now))) }
 {
     let value = expression(arena, value.to_tree(arena));
     pair(arena, token.to_tree(arena), value)
@@ -128,7 +128,7 @@ fn arm_comma<'a>(arena: &'a Arena, comma: &Option<token::Comma>) -> Result<Tree<
 #[tactic(auto, unfolding(syn_kinds::specs::Table::marks, syn_kinds::specs::Table::sign))]
 fn behind_arrow<'a, E: ToTree>(arena: &'a Arena, node: &'a Arm<E>) -> Result<Tree<'a>, AllocError>
     ensures { IfOk result (λ x. x ≡ t.Pair (words.mark node.now.fat_arrow_token) (t.Pair (t.Called n.the_body
-        (words.expression (E.tree node.now.body.value))) (t.Called n.the_comma (views.arm_comma node.now.comma)))) }
+        (words.expression (E.tree node.now.body))) (t.Called n.the_comma (views.arm_comma node.now.comma)))) }
 {
     let value = expression(arena, node.body.to_tree(arena));
     three(

@@ -81,7 +81,7 @@ fn typed_closure<'a, E: ToTree>(
     node: &'a ExprClosure<E>,
 ) -> Result<Tree<'a>, AllocError>
     ensures { (x : GivenTree) → IfOk head.entry (λ r. r ≡ x) → IfOk result (λ r. r ≡ t.Alone k.ExprTypedClosure
-        (t.Pair x (t.Pair (return_type E.tree node.now.output) (as_block (E.tree node.now.body.value))))) }
+        (t.Pair x (t.Pair (return_type E.tree node.now.output) (as_block (E.tree node.now.body))))) }
 {
     let returned = node.output.to_tree(arena);
     let own = three(arena, head, returned, as_block_of(arena, &node.body));
@@ -95,7 +95,7 @@ fn closure<'a, E: ToTree>(
     node: &'a ExprClosure<E>,
 ) -> Result<Tree<'a>, AllocError>
     ensures { (x : GivenTree) → IfOk head.entry (λ r. r ≡ x)
-        → IfOk result (λ r. r ≡ views.closure E.tree node.now.output x (E.tree node.now.body.value)) }
+        → IfOk result (λ r. r ≡ views.closure E.tree node.now.output x (E.tree node.now.body)) }
 {
     match &node.output {
         ReturnType::Default => { front(arena, Kind::ExprClosure, head, node.body.to_tree(arena)) }

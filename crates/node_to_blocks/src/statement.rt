@@ -50,7 +50,7 @@ fn let_value<'a, E: ToTree>(
     arena: &'a Arena,
     node: &'a LocalInit<E>,
 ) -> Result<Tree<'a>, AllocError>
-    ensures { IfOk result (λ x. x ≡ views.let_value node.now.diverge (E.tree node.now.expr.value)) }
+    ensures { IfOk result (λ x. x ≡ views.let_value node.now.diverge (E.tree node.now.expr)) }
 {
     match &node.diverge {
         None => node.expr.to_tree(arena),
@@ -62,10 +62,10 @@ fn let_value<'a, E: ToTree>(
 fn behind_else<'a, E: ToTree>(
     arena: &'a Arena,
     token: &'a token::Else,
-    form: &'a Box<E>,
+    form: &'a E,
 ) -> Result<Tree<'a>, AllocError>
     ensures { IfOk result (λ x. x ≡ t.Called n.the_else (t.Pair (words.keyword token.now)
-        (views.else_block (E.tree form.now.value)))) }
+        (views.else_block (E.tree form.now)))) }
 {
     let block = else_block_of(arena, form);
     let both = pair(arena, token.to_tree(arena), block);

@@ -100,14 +100,14 @@ impl<E: ToTree> Way<FieldValue<E>> for AsField {
 }
 
 // What the other fields are taken from.
-fn source<'a, E: ToTree>(arena: &'a Arena, value: &'a Box<E>) -> Result<Tree<'a>, AllocError>
-    ensures { IfOk result (λ x. x ≡ words.expression (E.tree value.now.value)) }
+fn source<'a, E: ToTree>(arena: &'a Arena, value: &'a E) -> Result<Tree<'a>, AllocError>
+    ensures { IfOk result (λ x. x ≡ words.expression (E.tree value.now)) }
 {
     expression(arena, value.to_tree(arena))
 }
 
 // What the other fields are taken from, if it is there.
-fn base<'a, E: ToTree>(arena: &'a Arena, rest: &'a Option<Box<E>>) -> Result<Tree<'a>, AllocError>
+fn base<'a, E: ToTree>(arena: &'a Arena, rest: &'a Option<E>) -> Result<Tree<'a>, AllocError>
     ensures { IfOk result (λ x. x ≡ views.base E.tree rest.now) }
 {
     match rest {

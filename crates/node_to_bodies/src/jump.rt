@@ -23,7 +23,7 @@ fn jump<'a, E: ToTree>(
     arena: &'a Arena,
     kind: Kind,
     own: Result<Tree<'a>, AllocError>,
-    operand: &'a Option<Box<E>>,
+    operand: &'a Option<E>,
 ) -> Result<Tree<'a>, AllocError>
     ensures { (x : GivenTree) → IfOk own.entry (λ r. r ≡ x)
         → IfOk result (λ r. r ≡ views.jump E.tree (kind_of kind) x operand.now) }

@@ -74,9 +74,9 @@ fn by_value<'a, E>(
 fn said<'a, E: ToTree>(
     arena: &'a Arena,
     colon_token: &token::Colon,
-    ty: &'a Box<E>,
+    ty: &'a E,
 ) -> Result<Tree<'a>, AllocError>
-    ensures { IfOk result (λ x. x ≡ t.First (t.Pair (words.mark colon_token.now) (E.tree ty.now.value))) }
+    ensures { IfOk result (λ x. x ≡ t.First (t.Pair (words.mark colon_token.now) (E.tree ty.now))) }
 {
     let mark = sign(Sign::Colon, colon_token);
     first(arena, pair(arena, mark, ty.to_tree(arena)))
@@ -186,11 +186,11 @@ fn named_dots<'a>(arena: &'a Arena, dots: &token::DotDotDot) -> Result<Tree<'a>,
 #[tactic(auto, unfolding(syn_kinds::specs::Table::marks, syn_kinds::specs::Table::sign))]
 fn behind_pattern<'a, E: ToTree>(
     arena: &'a Arena,
-    pattern: &'a Box<E>,
+    pattern: &'a E,
     colon_token: &token::Colon,
     dots: &token::DotDotDot,
 ) -> Result<Tree<'a>, AllocError>
-    ensures { IfOk result (λ x. x ≡ words.last 3 (t.Pair (t.Called n.the_pattern (E.tree pattern.now.value))
+    ensures { IfOk result (λ x. x ≡ words.last 3 (t.Pair (t.Called n.the_pattern (E.tree pattern.now))
         (t.Pair (words.mark colon_token.now) (t.First (t.Called n.the_dots (words.mark dots.now)))))) }
 {
     let parts = three(

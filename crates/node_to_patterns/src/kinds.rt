@@ -53,9 +53,9 @@ pub fn one_pattern<'a>(
 fn bound<'a, E: ToTree>(
     arena: &'a Arena,
     at_token: &token::At,
-    pattern: &'a Box<E>,
+    pattern: &'a E,
 ) -> Result<Tree<'a>, AllocError>
-    ensures { IfOk result (λ x. x ≡ t.Pair (words.mark at_token.now) (E.tree pattern.now.value)) }
+    ensures { IfOk result (λ x. x ≡ t.Pair (words.mark at_token.now) (E.tree pattern.now)) }
 {
     let mark = sign(Sign::At, at_token);
     pair(arena, mark, pattern.to_tree(arena))

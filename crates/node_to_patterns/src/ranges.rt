@@ -26,7 +26,7 @@ use syn_kinds::token;
 use syn_leaf::operators::RangeLimits;
 
 // The bound that an entry asks for, or nothing where the range lacks it.
-fn given<'a, E: ToTree>(arena: &'a Arena, bound: &'a Option<Box<E>>) -> Result<Tree<'a>, AllocError>
+fn given<'a, E: ToTree>(arena: &'a Arena, bound: &'a Option<E>) -> Result<Tree<'a>, AllocError>
     ensures { IfOk result (λ x. x ≡ words.given views.range_bound (views.held E.tree bound.now)) }
 {
     match bound {
@@ -38,7 +38,7 @@ fn given<'a, E: ToTree>(arena: &'a Arena, bound: &'a Option<Box<E>>) -> Result<T
 // The bound that stands there, if one does.
 fn optional<'a, E: ToTree>(
     arena: &'a Arena,
-    bound: &'a Option<Box<E>>,
+    bound: &'a Option<E>,
 ) -> Result<Tree<'a>, AllocError>
     ensures { IfOk result (λ x. x ≡ words.optional views.range_bound (views.held E.tree bound.now)) }
 {
@@ -53,7 +53,7 @@ fn optional<'a, E: ToTree>(
 fn closed_end<'a, E: ToTree>(
     arena: &'a Arena,
     token: &token::DotDotEq,
-    end: &'a Option<Box<E>>,
+    end: &'a Option<E>,
 ) -> Result<Tree<'a>, AllocError>
     ensures { IfOk result (λ x. x ≡ t.Node k.RangeEnd (t.First (t.Pair (words.mark token.now)
         (words.given views.range_bound (views.held E.tree end.now))))) }
@@ -68,7 +68,7 @@ fn closed_end<'a, E: ToTree>(
 fn open_end<'a, E: ToTree>(
     arena: &'a Arena,
     token: &token::DotDot,
-    end: &'a Option<Box<E>>,
+    end: &'a Option<E>,
 ) -> Result<Tree<'a>, AllocError>
     ensures { IfOk result (λ x. x ≡ t.Node k.RangeEnd (t.Second (t.Pair (words.mark token.now)
         (words.optional views.range_bound (views.held E.tree end.now))))) }
@@ -175,10 +175,10 @@ fn range_from<'a>(arena: &'a Arena, bound: Tree<'a>, end: Tree<'a>) -> Result<Tr
 // A range with a start, without its attributes.
 fn started<'a, E: ToTree>(
     arena: &'a Arena,
-    start: &'a Box<E>,
+    start: &'a E,
     node: &'a PatRange<E>,
 ) -> Result<Tree<'a>, AllocError>
-    ensures { IfOk result (λ x. x ≡ views.range_from (views.range_bound (E.tree start.now.value))
+    ensures { IfOk result (λ x. x ≡ views.range_from (views.range_bound (E.tree start.now))
         (views.range_end node.now.limits (views.held E.tree node.now.end))) }
 {
     let bound = range_bound_of(arena, start)?;

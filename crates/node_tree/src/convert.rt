@@ -2,11 +2,11 @@
 
 ghost use Rattle.node_tree.specs.DerivedItems.{item_of};
 ghost use Rattle.node_tree.specs.declared.item.Item.TheVariants as items;
-ghost use Rattle.node_tree.specs.declared.node.Node.TheVariants as nodes;
+ghost use Rattle.node_tree.specs.declared.node.NodeKind.TheVariants as kinds;
 ghost use Rattle.std.specs.Prelude.{◌≡◌};
 
 use crate::item::Item;
-use crate::node::Node;
+use crate::node::{Node, NodeKind};
 use node_expressions::Expr;
 use node_items::{
     Data, DataEnum, DataStruct, DataUnion, DeriveInput, ItemConst, ItemEnum, ItemExternCrate,
@@ -205,29 +205,29 @@ impl From<DeriveInput<Node>> for Item {
     }
 }
 
-impl From<Expr<Node>> for Node {
-    ghost from_gives = { λ node made. made ≡ nodes.Expr node };
+impl From<Expr<Node>> for NodeKind {
+    ghost from_gives = { λ node made. made ≡ kinds.Expr node };
 
-    /// What may stand inside another, of an expression.
-    fn from(node: Expr<Node>) -> Node {
-        Node::Expr(node)
+    /// What a node is, of an expression.
+    fn from(node: Expr<Node>) -> NodeKind {
+        NodeKind::Expr(node)
     }
 }
 
-impl From<Pat<Node>> for Node {
-    ghost from_gives = { λ node made. made ≡ nodes.Pat node };
+impl From<Pat<Node>> for NodeKind {
+    ghost from_gives = { λ node made. made ≡ kinds.Pat node };
 
-    /// What may stand inside another, of a pattern.
-    fn from(node: Pat<Node>) -> Node {
-        Node::Pat(node)
+    /// What a node is, of a pattern.
+    fn from(node: Pat<Node>) -> NodeKind {
+        NodeKind::Pat(node)
     }
 }
 
-impl From<Type<Node>> for Node {
-    ghost from_gives = { λ node made. made ≡ nodes.«Type» node };
+impl From<Type<Node>> for NodeKind {
+    ghost from_gives = { λ node made. made ≡ kinds.«Type» node };
 
-    /// What may stand inside another, of a type.
-    fn from(node: Type<Node>) -> Node {
-        Node::Type(node)
+    /// What a node is, of a type.
+    fn from(node: Type<Node>) -> NodeKind {
+        NodeKind::Type(node)
     }
 }

@@ -13,4 +13,4 @@ pub mod node;
 
 pub use file::File;
 pub use item::Item;
-pub use node::Node;
+pub use node::{Node, NodeKind};

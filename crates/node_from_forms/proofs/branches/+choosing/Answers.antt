@@ -8,11 +8,11 @@ use Rattle.node_from_forms.proofs.BlockForms.{behind_else}
 use Rattle.node_from_forms.specs.BranchParts.{else_operand as else_operand_entry}
 use Rattle.node_from_forms.proofs.branches.+choosing.Goals as goal
 
-pub else_operand-returns-in_ok-new-in_default : goal.else_operand-returns-in_ok-new-in_default
-else_operand-returns-in_ok-new-in_default g n c =
+pub else_operand-returns-in_ok-expression-in_default : goal.else_operand-returns-in_ok-expression-in_default
+else_operand-returns-in_ok-expression-in_default g n c =
     let last = c.alternative.result.1.now in
     let e : c.alternative.result.0 ≡ 1 = omega arith in
     let d = c.alternative.ensures.chosen ∙ ap (λ m. among 1 m last) e in
     let h = subst (λ x. IsShaped x else_operand_entry) d c.requires.shaped in
-    ap else_operand (ap g.R.Reader.view c.in_ok-new-in_default.ensures.ok ∙ c.expression-in_default.ensures
-    ∙ c.in_ok-plain_block-in_default.ensures) ∙ behind_else last h ∙ sym (ap kept d)
+    ap else_operand (c.in_ok-expression-in_default.ensures ∙ c.in_ok-plain_block-in_default.ensures)
+    ∙ behind_else last h ∙ sym (ap kept d)

@@ -39,7 +39,7 @@ optional_keyword-requires-4 g c =
 pub returns : goal.returns
 returns g c =
     by_itself g.R.Reader.view c.new.result.items _ _ c.new.ensures.items
-    (ap (λ h. closure g.R.Reader.view c.args.output h (g.R.Reader.view c.args.body.value))
+    (ap (λ h. closure g.R.Reader.view c.args.output h (g.R.Reader.view c.args.body))
     (eight_kept _ _ _ _ _ _ _ _ _ _ _ _ _ _ _ _ _ c.eight.ensures
     c.in_ok-lifetimes.ensures c.optional_keyword.ensures c.optional_keyword-2.ensures c.optional_keyword-3.ensures
     c.optional_keyword-4.ensures c.sign.ensures c.in_ok-inputs.ensures c.sign-2.ensures))

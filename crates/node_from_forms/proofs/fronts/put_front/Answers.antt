@@ -31,7 +31,7 @@ returns-in-Assign g c =
     let x = c.in-Assign.node in
     let p = c.put_in_front-in-Assign in
     let zs = p.new.attrs.items in
-    let y : Tree = t.Infix (f x.left.value) k.ExprAssign (alternative 0 (mark x.eq_token)) (f x.right.value) in
+    let y : Tree = t.Infix (f x.left) k.ExprAssign (alternative 0 (mark x.eq_token)) (f x.right) in
     arm_put p.result f c.args.front.items x.attrs.items zs y c.args.form.now p.ensures c.requires.bare
     (ap (expr f) c.in-Assign.is)
 
@@ -51,7 +51,7 @@ returns-in-Await g c =
     let x = c.in-Await.node in
     let p = c.put_in_front-in-Await in
     let zs = p.new.attrs.items in
-    let y : Tree = t.Back (f x.base.value) k.ExprAwait (dot x.dot_token ▸ keyword x.await_token) in
+    let y : Tree = t.Back (f x.base) k.ExprAwait (dot x.dot_token ▸ keyword x.await_token) in
     arm_put p.result f c.args.front.items x.attrs.items zs y c.args.form.now p.ensures c.requires.bare
     (ap (expr f) c.in-Await.is)
 
@@ -61,7 +61,7 @@ returns-in-Binary g c =
     let x = c.in-Binary.node in
     let p = c.put_in_front-in-Binary in
     let zs = p.new.attrs.items in
-    let y : Tree = t.Infix (f x.left.value) (bin_op_kind x.op) (bin_op x.op) (f x.right.value) in
+    let y : Tree = t.Infix (f x.left) (bin_op_kind x.op) (bin_op x.op) (f x.right) in
     arm_put p.result f c.args.front.items x.attrs.items zs y c.args.form.now p.ensures c.requires.bare
     (ap (expr f) c.in-Binary.is)
 
@@ -93,7 +93,7 @@ returns-in-Call g c =
     let x = c.in-Call.node in
     let p = c.put_in_front-in-Call in
     let zs = p.new.attrs.items in
-    let y : Tree = t.Back (f x.func.value) k.ExprCall (enclosed x.paren_token (expressions f x.args)) in
+    let y : Tree = t.Back (f x.func) k.ExprCall (enclosed x.paren_token (expressions f x.args)) in
     arm_put p.result f c.args.front.items x.attrs.items zs y c.args.form.now p.ensures c.requires.bare
     (ap (expr f) c.in-Call.is)
 
@@ -103,7 +103,7 @@ returns-in-Cast g c =
     let x = c.in-Cast.node in
     let p = c.put_in_front-in-Cast in
     let zs = p.new.attrs.items in
-    let y : Tree = t.Back (f x.expr.value) k.ExprCast (keyword x.as_token ▸ n.the_type ∶ f x.ty.value ▸ absent) in
+    let y : Tree = t.Back (f x.expr) k.ExprCast (keyword x.as_token ▸ n.the_type ∶ f x.ty ▸ absent) in
     arm_put p.result f c.args.front.items x.attrs.items zs y c.args.form.now p.ensures c.requires.bare
     (ap (expr f) c.in-Cast.is)
 
@@ -113,7 +113,7 @@ returns-in-Closure g c =
     let x = c.in-Closure.node in
     let p = c.put_in_front-in-Closure in
     let zs = p.new.attrs.items in
-    let y : Tree = closure f x.output (closure_head f x) (f x.body.value) in
+    let y : Tree = closure f x.output (closure_head f x) (f x.body) in
     arm_put p.result f c.args.front.items x.attrs.items zs y c.args.form.now p.ensures c.requires.bare
     (ap (expr f) c.in-Closure.is)
 
@@ -145,7 +145,7 @@ returns-in-Field g c =
     let x = c.in-Field.node in
     let p = c.put_in_front-in-Field in
     let zs = p.new.attrs.items in
-    let y : Tree = t.Back (f x.base.value) k.ExprField (dot x.dot_token ▸ field_member x.member) in
+    let y : Tree = t.Back (f x.base) k.ExprField (dot x.dot_token ▸ field_member x.member) in
     arm_put p.result f c.args.front.items x.attrs.items zs y c.args.form.now p.ensures c.requires.bare
     (ap (expr f) c.in-Field.is)
 
@@ -156,8 +156,8 @@ returns-in-ForLoop g c =
     let p = c.put_in_front-in-ForLoop in
     let zs = p.new.attrs.items in
     let form : Tree → Tree =
-    λ w. t.Alone k.ExprForLoop (optional label x.label ▸ keyword x.for_token ▸ several (f x.pat.value) ▸ keyword
-    x.in_token ▸ condition (f x.expr.value) ▸ w) in
+    λ w. t.Alone k.ExprForLoop (optional label x.label ▸ keyword x.for_token ▸ several (f x.pat) ▸ keyword
+    x.in_token ▸ condition (f x.expr) ▸ w) in
     let own : Tree = body f x.attrs.items x.body in
     let put : Tree = body f zs x.body in
     within_put p.result f c.args.front.items x.attrs.items zs form own put c.args.form.now p.ensures c.requires.bare
@@ -169,7 +169,7 @@ returns-in-Group g c =
     let x = c.in-Group.node in
     let p = c.put_in_front-in-Group in
     let zs = p.new.attrs.items in
-    let y : Tree = t.Alone k.ExprGroup (t.Group delimiter.None (expression (f x.expr.value))) in
+    let y : Tree = t.Alone k.ExprGroup (t.Group delimiter.None (expression (f x.expr))) in
     arm_put p.result f c.args.front.items x.attrs.items zs y c.args.form.now p.ensures c.requires.bare
     (ap (expr f) c.in-Group.is)
 
@@ -179,7 +179,7 @@ returns-in-If g c =
     let x = c.in-If.node in
     let p = c.put_in_front-in-If in
     let zs = p.new.attrs.items in
-    let y : Tree = t.Alone k.ExprIf (keyword x.if_token ▸ condition (f x.cond.value) ▸ block f x.then_branch ▸
+    let y : Tree = t.Alone k.ExprIf (keyword x.if_token ▸ condition (f x.cond) ▸ block f x.then_branch ▸
     optional (else_branch f) x.else_branch) in
     arm_put p.result f c.args.front.items x.attrs.items zs y c.args.form.now p.ensures c.requires.bare
     (ap (expr f) c.in-If.is)
@@ -190,7 +190,7 @@ returns-in-Index g c =
     let x = c.in-Index.node in
     let p = c.put_in_front-in-Index in
     let zs = p.new.attrs.items in
-    let y : Tree = t.Back (f x.expr.value) k.ExprIndex (enclosed x.bracket_token (expression (f x.index.value)))
+    let y : Tree = t.Back (f x.expr) k.ExprIndex (enclosed x.bracket_token (expression (f x.index)))
     in
     arm_put p.result f c.args.front.items x.attrs.items zs y c.args.form.now p.ensures c.requires.bare
     (ap (expr f) c.in-Index.is)
@@ -211,8 +211,7 @@ returns-in-Let g c =
     let x = c.in-Let.node in
     let p = c.put_in_front-in-Let in
     let zs = p.new.attrs.items in
-    let y : Tree = t.Front k.ExprLet (keyword x.let_token ▸ several (f x.pat.value) ▸ mark x.eq_token) (f
-    x.expr.value) in
+    let y : Tree = t.Front k.ExprLet (keyword x.let_token ▸ several (f x.pat) ▸ mark x.eq_token) (f x.expr) in
     arm_put p.result f c.args.front.items x.attrs.items zs y c.args.form.now p.ensures c.requires.bare
     (ap (expr f) c.in-Let.is)
 
@@ -255,7 +254,7 @@ returns-in-Match g c =
     let p = c.put_in_front-in-Match in
     let zs = p.new.attrs.items in
     let form : Tree → Tree =
-    λ w. t.Alone k.ExprMatch (keyword x.match_token ▸ condition (f x.expr.value) ▸ enclosed x.brace_token (w ▸
+    λ w. t.Alone k.ExprMatch (keyword x.match_token ▸ condition (f x.expr) ▸ enclosed x.brace_token (w ▸
     t.Node k.Arms (turns (arm f) x.arms.items))) in
     let own : Tree = inner_attributes f x.attrs.items in
     let put : Tree = inner_attributes f zs in
@@ -268,7 +267,7 @@ returns-in-MethodCall g c =
     let x = c.in-MethodCall.node in
     let p = c.put_in_front-in-MethodCall in
     let zs = p.new.attrs.items in
-    let y : Tree = t.Back (f x.receiver.value) k.ExprMethodCall (dot x.dot_token ▸ n.the_name ∶ name x.method ▸
+    let y : Tree = t.Back (f x.receiver) k.ExprMethodCall (dot x.dot_token ▸ n.the_name ∶ name x.method ▸
     optional (angle_bracketed f) x.turbofish ▸ enclosed x.paren_token (expressions f x.args)) in
     arm_put p.result f c.args.front.items x.attrs.items zs y c.args.form.now p.ensures c.requires.bare
     (ap (expr f) c.in-MethodCall.is)
@@ -279,7 +278,7 @@ returns-in-Paren g c =
     let x = c.in-Paren.node in
     let p = c.put_in_front-in-Paren in
     let zs = p.new.attrs.items in
-    let y : Tree = t.Alone k.ExprParen (enclosed x.paren_token (t.Final (expression (f x.expr.value)))) in
+    let y : Tree = t.Alone k.ExprParen (enclosed x.paren_token (t.Final (expression (f x.expr)))) in
     arm_put p.result f c.args.front.items x.attrs.items zs y c.args.form.now p.ensures c.requires.bare
     (ap (expr f) c.in-Paren.is)
 
@@ -310,7 +309,7 @@ returns-in-RawAddr g c =
     let p = c.put_in_front-in-RawAddr in
     let zs = p.new.attrs.items in
     let y : Tree = t.Front k.ExprRawAddr (mark x.and_token ▸ keyword x.raw ▸ raw_mutability x.mutability) (f
-    x.expr.value) in
+    x.expr) in
     arm_put p.result f c.args.front.items x.attrs.items zs y c.args.form.now p.ensures c.requires.bare
     (ap (expr f) c.in-RawAddr.is)
 
@@ -320,7 +319,7 @@ returns-in-Reference g c =
     let x = c.in-Reference.node in
     let p = c.put_in_front-in-Reference in
     let zs = p.new.attrs.items in
-    let y : Tree = t.Front k.ExprReference (mark x.and_token ▸ optional keyword x.mutability) (f x.expr.value) in
+    let y : Tree = t.Front k.ExprReference (mark x.and_token ▸ optional keyword x.mutability) (f x.expr) in
     arm_put p.result f c.args.front.items x.attrs.items zs y c.args.form.now p.ensures c.requires.bare
     (ap (expr f) c.in-Reference.is)
 
@@ -330,8 +329,8 @@ returns-in-Repeat g c =
     let x = c.in-Repeat.node in
     let p = c.put_in_front-in-Repeat in
     let zs = p.new.attrs.items in
-    let y : Tree = t.Alone k.ExprRepeat (enclosed x.bracket_token (expression (f x.expr.value) ▸ mark x.semi_token
-    ▸ expression (f x.len.value))) in
+    let y : Tree = t.Alone k.ExprRepeat (enclosed x.bracket_token (expression (f x.expr) ▸ mark x.semi_token
+    ▸ expression (f x.len))) in
     arm_put p.result f c.args.front.items x.attrs.items zs y c.args.form.now p.ensures c.requires.bare
     (ap (expr f) c.in-Repeat.is)
 
@@ -362,7 +361,7 @@ returns-in-Try g c =
     let x = c.in-Try.node in
     let p = c.put_in_front-in-Try in
     let zs = p.new.attrs.items in
-    let y : Tree = t.Back (f x.expr.value) k.ExprTry (mark x.question_token) in
+    let y : Tree = t.Back (f x.expr) k.ExprTry (mark x.question_token) in
     arm_put p.result f c.args.front.items x.attrs.items zs y c.args.form.now p.ensures c.requires.bare
     (ap (expr f) c.in-Try.is)
 
@@ -392,7 +391,7 @@ returns-in-Unary g c =
     let x = c.in-Unary.node in
     let p = c.put_in_front-in-Unary in
     let zs = p.new.attrs.items in
-    let y : Tree = t.Front k.ExprUnary (un_op x.op) (f x.expr.value) in
+    let y : Tree = t.Front k.ExprUnary (un_op x.op) (f x.expr) in
     arm_put p.result f c.args.front.items x.attrs.items zs y c.args.form.now p.ensures c.requires.bare
     (ap (expr f) c.in-Unary.is)
 
@@ -415,7 +414,7 @@ returns-in-While g c =
     let p = c.put_in_front-in-While in
     let zs = p.new.attrs.items in
     let form : Tree → Tree =
-    λ w. t.Alone k.ExprWhile (optional label x.label ▸ keyword x.while_token ▸ condition (f x.cond.value) ▸ w) in
+    λ w. t.Alone k.ExprWhile (optional label x.label ▸ keyword x.while_token ▸ condition (f x.cond) ▸ w) in
     let own : Tree = body f x.attrs.items x.body in
     let put : Tree = body f zs x.body in
     within_put p.result f c.args.front.items x.attrs.items zs form own put c.args.form.now p.ensures c.requires.bare

@@ -16,7 +16,7 @@ unfolding table.marks table.sign
 returns-in-None g t c =
     let fits : c.in-Some.index < 4294967296 = search rules in
     let f = g.R.Reader.view in
-    let l = f c.args.base.value in
+    let l = f c.args.base in
     by_itself f c.new.result.items (numbered l c.in-Some.index)
     (index_fields l (indices (chars c.args.text.now))) c.new.ensures.items
     (last_dot l c.in-Some.index c.in-Some-first_char.field-0-0
@@ -38,13 +38,12 @@ unfolding table.marks table.sign
 returns-in_ok-base-in-Some-first_char-2 g t c =
     let fits : c.in-Some.index < 4294967296 = search rules in
     let f = g.R.Reader.view in
-    let l : Tree = f c.args.base.value in
-    let m : Tree = f c.in_ok-base-in-Some-first_char-2.base.value in
+    let l : Tree = f c.args.base in
+    let m : Tree = f c.in_ok-base-in-Some-first_char-2.base in
     let y : Tree = index_fields m (indices (chars c.in-Some-first_char.behind.now)) in
-    let z : Tree = f c.expression.result in
-    let bare : z ≡ numbered l c.in-Some.index =
-    made_bare f c.new.result.items (numbered l c.in-Some.index) z c.expression.ensures c.new.ensures.items in
-    let made : m ≡ numbered l c.in-Some.index = ap f c.in_ok-base-in-Some-first_char-2.ensures.ok ∙ bare in
+    let made : m ≡ numbered l c.in-Some.index =
+    made_bare f c.new.result.items (numbered l c.in-Some.index) m c.in_ok-base-in-Some-first_char-2.ensures
+    c.new.ensures.items in
     subst (λ w. IfOk c.field_of_text.result (λ x. expr_field f x ≡ w))
     (more_indices l m y c.in-Some.index c.in-Some-first_char.field-0-0
     c.in-Some-first_char-2.field-0.0 (chars c.in-Some-first_char.behind.now) (chars c.args.text.now)

@@ -70,7 +70,7 @@ returns-in_ok-literal-in_default g c =
     let h = seq_parts (when an_ident read the_name ∶ ident else the_value ∶ literal are_indices) n
     (parts k.ExprField c.pair.ensures c.requires.own).1 in
     subst (λ w. IfOk c.field_of_text.result (λ x. expr_field f x ≡ w))
-    (ap (λ cs. index_fields (f c.in_ok-base.base.value) (indices cs)) c.as_str.ensures
+    (ap (λ cs. index_fields (f c.in_ok-base.base) (indices cs)) c.as_str.ensures
     ∙ number_held (kept c.args.left.now) _ c.pair-2.result.0.now c.called.result.now
     c.called-in_default.result.now _ c.args.own.now (literal_text c.in_ok-literal-in_default.literal)
     (dot_parts c.args.own.now c.pair.result.0.now c.pair.result.1.now c.pair-2.result.0.now c.pair-2.result.1.now

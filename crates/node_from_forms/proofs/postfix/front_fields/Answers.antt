@@ -24,12 +24,12 @@ loop-number-preserved g c =
     let x = c.number-item.result in
     let below : i < length xs = omega arith in
     let inv = c.loop-number.invariant in
-    let text = ap (λ t. index_fields (f c.loop-number.base.value) (indices t)) c.as_str.ensures in
+    let text = ap (λ t. index_fields (f c.loop-number.base) (indices t)) c.as_str.ensures in
     record {
       whole =
           number_put _ _ _ xs i x (literal_text c.in_ok-literal.literal) below c.number-item.is
           c.in_ok-literal.ensures.text
-          (ap f c.in_ok-base-2.ensures.ok ∙ c.expression.ensures ∙ c.in_ok-field.ensures ∙ text) inv.whole;
+          (c.in_ok-base-2.ensures ∙ c.in_ok-field.ensures ∙ text) inv.whole;
       shaped =
           (inv.shaped.0, (turn_shaped xs i x inv.shaped.0 (literal are_indices) below c.number-item.is
           inv.shaped.1).1);

@@ -12,6 +12,6 @@ abbrev pub invariant-loop-number : goal.invariant-loop-number
 invariant-loop-number g l =
     let rest = turns (drop l.number-index l.each) in record {
       whole :
-          fields_in_front (g.R.Reader.view l.base.value) (kept rest) ≡ fields_in_front (kept l.left) (kept l.numbers);
+          fields_in_front (g.R.Reader.view l.base) (kept rest) ≡ fields_in_front (kept l.left) (kept l.numbers);
       shaped : (e : List Token → Bool) × IsShaped rest (star e (literal are_indices));
     }

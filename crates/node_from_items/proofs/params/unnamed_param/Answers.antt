@@ -14,7 +14,7 @@ unfolding table.marks table.sign
 returns g c =
     let f = g.R.Reader.view in
     let a = outer_attributes f c.args.attrs.items in
-    ap (λ y. t.Node k.Parameter (t.Pair a (a_pattern_and_type y lone_colon (f c.in_ok-ty.ty.value))))
+    ap (λ y. t.Node k.Parameter (t.Pair a (a_pattern_and_type y lone_colon (f c.in_ok-ty.ty))))
     c.in_ok-pat.ensures
     ∙ ap (λ y. t.Node k.Parameter (t.Pair a (a_pattern_and_type wild lone_colon y)))
     (c.in_ok-ty.ensures ∙ sym (ap (λ y. kept (inside y)) c.called-ty.ensures.1))

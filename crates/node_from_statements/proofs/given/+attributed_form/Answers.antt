@@ -30,7 +30,7 @@ returns-in_ok-expr_cast-in-Cast g n c =
     cast_given c.args.tree.now c.in-Behind.left.now c.in-Behind.own.now _ _
     (outer_attributes g.R.Reader.view c.args.attrs.items) c.in-Behind.which
     (c.which_form.ensures ∙ ap formed_tree c.in-Behind.is) c.in-Cast.is
-    (ap g.R.Reader.view c.in_ok-left-in-Cast.ensures.ok ∙ c.expression.ensures ∙ c.in_ok-first-in-Cast.ensures)
+    (c.in_ok-left-in-Cast.ensures ∙ c.in_ok-first-in-Cast.ensures)
     c.in_ok-expr_cast-in-Cast.ensures
 
 pub kept_here-requires-in_default-clause-here : goal.kept_here-requires-in_default-clause-here
@@ -45,6 +45,5 @@ returns-in_ok-right-in_default-which g n c =
     (outer_attributes g.R.Reader.view c.args.attrs.items) w
     (c.which_form.ensures ∙ ap formed_tree c.in-Between.is)
     (no_range w c.in_default-which.not-Range c.in_default-which.not-RangeClosed)
-    (ap g.R.Reader.view c.in_ok-left-in_default-which.ensures.ok ∙ c.expression-in_default-which.ensures
-    ∙ c.in_ok-first-in_default-which.ensures)
+    (c.in_ok-left-in_default-which.ensures ∙ c.in_ok-first-in_default-which.ensures)
     c.in_ok-right-in_default-which.ensures c.infix.ensures

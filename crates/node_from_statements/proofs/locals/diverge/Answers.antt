@@ -51,6 +51,5 @@ returns-in_ok-block-in-Some g c =
     let s = seq_parts else_words c.pair.ensures (called_shaped the_else else_words _ _ h c.called.ensures) in
     ap t.First (called_kept the_else else_words _ _ _ h c.called.ensures
     (pair_kept _ _ _ _ _ c.pair.ensures c.keyword.ensures
-    (ap else_block (ap g.R.Reader.view c.in_ok-block-in-Some.ensures.ok ∙ c.expression.ensures
-    ∙ c.in_ok-plain_block-in-Some.ensures) ∙ as_diverging _ s.1)))
+    (ap else_block (c.in_ok-block-in-Some.ensures ∙ c.in_ok-plain_block-in-Some.ensures) ∙ as_diverging _ s.1)))
     ∙ sym (ap kept c.in-Some.ensures)

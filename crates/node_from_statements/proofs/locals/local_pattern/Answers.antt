@@ -37,12 +37,12 @@ child-requires-in-Some-clause-fewer g c =
       c.requires.type_fewer,
     )
 
-pub returns-in_ok-ty-in-Some : goal.returns-in_ok-ty-in-Some
-returns-in_ok-ty-in-Some g c =
+pub returns-in_ok-pattern-in-Some : goal.returns-in_ok-pattern-in-Some
+returns-in_ok-pattern-in-Some g c =
     let f = g.R.Reader.view in
     let h = (seq_parts typed (c.in-Some.ensures ∙ ap t.First c.pair.ensures) c.requires.ty).1 in
     λ y. typed_kept f c.new.result.items _ _ _ _ y (kept c.args.pattern.now) (kept c.args.ty.now) c.new.ensures.items
-    c.pattern.ensures c.in_ok-pat-in-Some.ensures
+    c.in_ok-pattern-in-Some.ensures c.in_ok-pat-in-Some.ensures
     (ap t.First (pair_kept _ _ _ _ _ c.pair.ensures c.sign.ensures
     (called_kept the_type (ref (k.AType k.WithPlus)) _ _ _ h c.called.ensures c.in_ok-ty-in-Some.ensures))
     ∙ sym (ap kept c.in-Some.ensures))

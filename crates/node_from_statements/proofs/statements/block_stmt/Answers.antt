@@ -9,10 +9,10 @@ use Rattle.node_from_forms.proofs.Parts.{first_of, last_of, seq_parts}
 use Rattle.node_from_statements.proofs.GivenForms.{lone_mark}
 use Rattle.node_from_statements.proofs.statements.block_stmt.Goals as goal
 
-pub returns-in-0-default : goal.returns-in-0-default
-returns-in-0-default g c =
+pub returns-in_ok-expression-in-0-default : goal.returns-in_ok-expression-in-0-default
+returns-in_ok-expression-in-0-default g c =
     let z : c.alternative.result.0 ≡ 0 = omega arith in
-    lone_mark _ _ c.sign.result c.expression.ensures c.new.ensures ∙ ap t.First c.sign.ensures
+    lone_mark _ _ c.sign.result c.in_ok-expression-in-0-default.ensures c.new.ensures ∙ ap t.First c.sign.ensures
     ∙ sym (ap kept (first_of c.alternative.ensures.chosen z))
 
 pub stmt-requires-clause-shaped : goal.stmt-requires-clause-shaped
