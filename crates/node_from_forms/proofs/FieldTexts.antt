@@ -13,9 +13,7 @@ use Rattle.syn_grammar.specs.Words.{or_zero, plain_decimal, texts_of}
 use Rattle.reader_tokens.specs.Texts.{Reads}
 use Rattle.reader_tokens.proofs.Dots.{at_dot_is, behind_last, behind_more}
 use Rattle.reader_tree.specs.Forms.{turns}
-use Rattle.node_paths.specs.declared.attribute.Attribute.{Attribute}
 use Rattle.node_shapes.specs.Shape.{IsShaped}
-use Rattle.node_views.specs.Statements.{attributed}
 use Rattle.node_from_forms.specs.FieldForms.{numbered}
 
 -- the index of a text
@@ -85,11 +83,6 @@ left_indices n c d cs ds es left i r h g =
     let w : indices_to_dot (before_dot (d ∷ es) ∷ behind_dots (d ∷ es)) ≡ true =
     ap (λ x. indices_to_dot (before_dot x ∷ behind_dots x)) (sym g) ∙ ap indices_to_dot (sym q) ∙ e in
     ap are_indices g ∙ of_more d es w
-
--- what a form without attributes was made into
-pub made_bare : {E : Type 0} (f : E → Tree) (xs : List (Attribute E)) (y z : Tree) → z ≡ attributed f xs y → xs ≡ []
-    → z ≡ y
-made_bare f xs y z e h = e ∙ ap (λ us. attributed f us y) h
 
 pub ruleset all_indices = (no_integer, last_index, last_dot, more_indices, left_indices)
 

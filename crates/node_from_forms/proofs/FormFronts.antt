@@ -35,7 +35,7 @@ none_in_front f [] y h = refl
 none_in_front f (x ∷ xs) y h = absurd (false≢true h)
 
 -- the own part may hold those within, which stay the same
-put_before : {E : Type 0} (f : E → Tree) (fs xs zs : List (Attribute E)) (y z : Tree) → zs ≡ fs ++ xs
+pub put_before : {E : Type 0} (f : E → Tree) (fs xs zs : List (Attribute E)) (y z : Tree) → zs ≡ fs ++ xs
     → is_bare (attributed f xs y) ≡ true → z ≡ y
     → attributed f zs z ≡ behind_outer (turns (attribute f) (outer fs)) (attributed f xs y)
 put_before f fs xs zs y z e h d =
@@ -45,7 +45,7 @@ put_before f fs xs zs y z e h d =
     ∙ ap (λ us. behind_outer (turns (attribute f) (outer fs)) (behind_outer (turns (attribute f) us) y)) (sym n)
 
 -- what stands within it does so all the same
-inside_front : {E : Type 0} (fs xs zs : List (Attribute E)) → zs ≡ fs ++ xs → inner_of fs ≡ []
+pub inside_front : {E : Type 0} (fs xs zs : List (Attribute E)) → zs ≡ fs ++ xs → inner_of fs ≡ []
     → inner_of zs ≡ inner_of xs
 inside_front fs xs zs e h = ap inner_of e ∙ inner_in_front fs xs h
 

@@ -139,7 +139,9 @@ fn prefix<E: Drop, R: Maker<E>>(
         Before::Return => Ok(Expr::Return(expr_return(below, own, Some(right))?)),
         Before::Yield => Ok(Expr::Yield(expr_yield(below, own, Some(right))?)),
         Before::Closure => Ok(Expr::Closure(expr_closure(below, own, right)?)),
-        Before::Range => { Ok(Expr::Range(expr_range(below, None, half_open(own), Some(right))?)) }
+        Before::Range => {
+            Ok(Expr::Range(expr_range(below, None, half_open(own), Some(right))?))
+        }
         Before::RangeClosed => {
             Ok(Expr::Range(expr_range(below, None, closed(own), Some(right))?))
         }
@@ -173,7 +175,9 @@ fn postfix<E: Drop, R: Maker<E>>(
             let operand = child(below, What::Form, left)?;
             Ok(Expr::Cast(expr_cast(below, operand, own)?))
         }
-        Behind::Range => { Ok(Expr::Range(expr_range(below, Some(left), half_open(own), None)?)) }
+        Behind::Range => {
+            Ok(Expr::Range(expr_range(below, Some(left), half_open(own), None)?))
+        }
     }
 }
 
@@ -247,7 +251,7 @@ fn attributed<E: Drop, R: Maker<E>>(
 }
 
 // A form with an operand behind it alone.
-fn fronted<E: Drop, R: Maker<E>>(
+fn before<E: Drop, R: Maker<E>>(
     below: &R,
     which: Before,
     own: &Tree<'_>,
@@ -280,7 +284,7 @@ pub fn form<E: Drop, R: Maker<E>>(below: &R, tree: &Tree<'_>) -> Result<Expr<E>,
 {
     match take::which_form(tree) {
         Formed::Alone(which, own) => atom(below, which, own),
-        Formed::Before(which, own, right) => fronted(below, which, own, right),
+        Formed::Before(which, own, right) => before(below, which, own, right),
         Formed::Behind(left, which, own) => postfix(below, left, which, own),
         Formed::Between(left, which, own, right) => between(below, left, which, own, right),
     }

@@ -147,6 +147,11 @@ pub made_other : {A B : Type 0} (r : Result A B) (v : A → Tree) (y z : Tree) �
 made_other (Ok x) v y z h e = h ∙ e
 made_other (Err x) v y z h e = h
 
+-- one of two alternatives
+
+pub either_way : {A : Type 0} (P : ℕ → Type 0) (l m n : ℕ) → (n ≡ l) ⊎ (n ≡ m) → P n → (P l → A) → (P m → A) → A
+either_way P l m n o p f g = ⊎_elim (λ e. f (subst P e p)) (λ e. g (subst P e p)) o
+
 -- of an extern block, a module, a trait and an impl, by whether unsafe stands in front
 
 not_so : (b : Bool) (m n : ℕ) (x : Tree) → not b ≡ true → by_unsafe b m n x ≡ alternative m x

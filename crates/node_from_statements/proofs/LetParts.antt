@@ -43,14 +43,6 @@ typed_pattern f xs v p m x y h e =
     ap (λ z. let_pattern z y)
     (e ∙ ap (λ us. Node k.ClosureParam (Pair (outer_attributes f us) (Pair p (First (Pair m x))))) h)
 
--- the same of what is kept of its parts
-pub typed_kept : {E : Type 0} (f : E → Tree) (xs : List (Attribute E)) (v p m x y q t : Tree) → xs ≡ []
-    → v ≡ Node k.ClosureParam (Pair (outer_attributes f xs) (Pair p (First (Pair m x)))) → p ≡ q
-    → First (Pair m (Called the_type x)) ≡ t → let_pattern v y ≡ Pair q (Pair t y)
-typed_kept f xs v p m x y q t h e a b =
-    typed_pattern f xs v p m x y h e ∙ ap (λ z. Pair z (Pair (First (Pair m (Called the_type x))) y)) a
-    ∙ ap (λ z. Pair q (Pair z y)) b
-
 pub ruleset patterns = (untyped, typed_pattern)
 
 -- named parts stand in few places

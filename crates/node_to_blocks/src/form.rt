@@ -157,8 +157,8 @@ fn closed<'a>(arena: &'a Arena, form: Tree<'a>) -> Result<Tree<'a>, AllocError>
     }
 }
 
-/// The value of a variable before `else`, of what has such a form: one that ends in braces is put in parentheses, at
-/// the call site.
+/// The value of a variable before `else`, of what has such a form: one that ends in braces is put in parentheses, at the
+/// call site.
 ///
 /// # Errors
 ///

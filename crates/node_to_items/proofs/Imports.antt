@@ -1,8 +1,6 @@
 -- Imports, by what each of them is.
-use Rattle.std.specs.Prelude.{◌≡◌, ◌<◌, ◌-◌, Bool, true, false, List, [], ◌∷◌, ◌++◌, length, map, take, refl}
-use Rattle.std.proofs.Common.{arith, ap, sym, ◌∙◌}
-use Rattle.reader_tree.specs.Forms.{elements}
-use Rattle.reader_tree.specs.declared.tree.Element.{Element}
+use Rattle.std.specs.Prelude.{◌≡◌, Bool, true, false, List, [], ◌∷◌, map, refl}
+use Rattle.std.proofs.Common.{ap, sym, ◌∙◌}
 use Rattle.rust_leaf.specs.declared.punct.Spacing.TheVariants.{Alone}
 use Rattle.syn_grammar.specs.Kind as k
 use Rattle.syn_grammar.specs.Tree as t
@@ -21,9 +19,7 @@ use Rattle.node_items.specs.declared.import.UseTree.TheVariants.{rolls-Rename}
 use Rattle.node_words.specs.Words.{enclosed, list, listed, mark}
 use Rattle.node_views.specs.Imports.{group_step, path_step, rooted, tops, use_alone, use_branch, use_glob, use_rename}
 use Rattle.node_views.specs.Imports.{use_step, use_tree}
-use Rattle.node_to.proofs.Lists.{last_of}
-use Rattle.node_to.specs.Elements.{element_of}
-use Rattle.node_to_items.specs.Imports.{as_element, import_branch, import_element, import_kind, import_tree, name_alone}
+use Rattle.node_to_items.specs.Imports.{import_branch, import_element, import_kind, import_tree, name_alone}
 use Rattle.node_to_items.specs.Imports.{name_renamed, path_before}
 
 -- a list whose values were made before it
@@ -107,16 +103,3 @@ tree_group true y x e =
 tree_group false y x e = sym (ap use_tree e ∙ group_is x)
 
 pub ruleset kinds = (tree_path, tree_name, tree_rename, tree_glob, tree_group)
-
--- the last of some imports, behind the others
-pub last_import : {P : Type 0} (b : Bool) (vs rs xs : List UseTree) (ps qs : List P) (z : UseTree) (es : List Element)
-    (y w : Tree) → rs ≡ vs → qs ≡ ps → length qs < length rs
-    → es ≡ map (element_of (import_element b)) xs → xs ≡ take (length rs - 1) rs
-    → take (length vs - 1) vs ++ z ∷ [] ≡ vs → w ≡ import_tree b z → y ≡ as_element b w
-    → elements 44 es (t.Final y) ≡ listed 44 (import_element b) vs ps
-last_import b vs rs xs ps qs z es y w e q l p s h u v =
-    ap (λ (ds : List Element). elements 44 ds (t.Final y)) p
-    ∙ ap (λ (x : Tree). elements 44 (map (element_of (import_element b)) xs) (t.Final x))
-    (v ∙ ap (λ (x : Tree). as_element b x) u)
-    ∙ last_of 44 (import_element b) vs xs z ps (s ∙ ap (λ (ys : List UseTree). take (length ys - 1) ys) e) h
-    (omega (arith, l, ap (λ ys. length ys) e, ap (λ ys. length ys) q))

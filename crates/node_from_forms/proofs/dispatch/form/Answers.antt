@@ -19,24 +19,24 @@ pub atom-requires-clause-fewer : goal.atom-requires-clause-fewer
 atom-requires-clause-fewer g c =
     omega (arith, ap node_count (c.which_form.ensures ∙ ap formed_tree c.in-Alone.is), c.requires.fewer)
 
-pub fronted-requires-clause-own : goal.fronted-requires-clause-own
-fronted-requires-clause-own g c =
+pub before-requires-clause-own : goal.before-requires-clause-own
+before-requires-clause-own g c =
     (subst (λ x. AreForms x) (c.which_form.ensures ∙ ap formed_tree c.in-Before.is) c.requires.shaped).1
 
-pub fronted-requires-clause-right : goal.fronted-requires-clause-right
-fronted-requires-clause-right g c =
+pub before-requires-clause-right : goal.before-requires-clause-right
+before-requires-clause-right g c =
     (subst (λ x. AreForms x) (c.which_form.ensures ∙ ap formed_tree c.in-Before.is) c.requires.shaped).3
 
-pub fronted-requires-clause-begins : goal.fronted-requires-clause-begins
-fronted-requires-clause-begins g c =
+pub before-requires-clause-begins : goal.before-requires-clause-begins
+before-requires-clause-begins g c =
     (subst (λ x. AreForms x) (c.which_form.ensures ∙ ap formed_tree c.in-Before.is) c.requires.shaped).2
 
-pub fronted-requires-clause-own_fewer : goal.fronted-requires-clause-own_fewer
-fronted-requires-clause-own_fewer g c =
+pub before-requires-clause-own_fewer : goal.before-requires-clause-own_fewer
+before-requires-clause-own_fewer g c =
     omega (arith, ap node_count (c.which_form.ensures ∙ ap formed_tree c.in-Before.is), c.requires.fewer)
 
-pub fronted-requires-clause-right_fewer : goal.fronted-requires-clause-right_fewer
-fronted-requires-clause-right_fewer g c =
+pub before-requires-clause-right_fewer : goal.before-requires-clause-right_fewer
+before-requires-clause-right_fewer g c =
     omega (arith, ap node_count (c.which_form.ensures ∙ ap formed_tree c.in-Before.is), c.requires.fewer)
 
 pub postfix-requires-clause-left : goal.postfix-requires-clause-left
@@ -86,8 +86,8 @@ returns-in-Alone g c =
 
 pub returns-in-Before : goal.returns-in-Before
 returns-in-Before g c =
-    subst (λ y. IfOk c.fronted.result (λ x. expr g.R.Reader.view x ≡ kept y))
-    (sym (c.which_form.ensures ∙ ap formed_tree c.in-Before.is)) c.fronted.ensures
+    subst (λ y. IfOk c.before.result (λ x. expr g.R.Reader.view x ≡ kept y))
+    (sym (c.which_form.ensures ∙ ap formed_tree c.in-Before.is)) c.before.ensures
 
 pub returns-in-Behind : goal.returns-in-Behind
 returns-in-Behind g c =

@@ -7,7 +7,7 @@ use Rattle.syn_grammar.specs.Words.{are_indices, indices}
 use Rattle.syn_kinds.specs.Table as table
 use Rattle.node_views.specs.Expressions.{expr_field}
 use Rattle.node_from_forms.specs.FieldForms.{numbered}
-use Rattle.node_from_forms.proofs.FieldTexts.{last_dot, left_indices, made_bare, more_indices}
+use Rattle.node_from_forms.proofs.FieldTexts.{last_dot, left_indices, more_indices}
 use Rattle.node_from_forms.proofs.Parts.{by_itself}
 use Rattle.node_from_forms.proofs.postfix.+field_of_text.Goals as goal
 
@@ -41,10 +41,9 @@ returns-in_ok-base-in-Some-first_char-2 g t c =
     let l : Tree = f c.args.base.value in
     let m : Tree = f c.in_ok-base-in-Some-first_char-2.base.value in
     let y : Tree = index_fields m (indices (chars c.in-Some-first_char.behind.now)) in
-    let z : Tree = f c.expression.result in
-    let bare : z ≡ numbered l c.in-Some.index =
-    made_bare f c.new.result.items (numbered l c.in-Some.index) z c.expression.ensures c.new.ensures.items in
-    let made : m ≡ numbered l c.in-Some.index = ap f c.in_ok-base-in-Some-first_char-2.ensures.ok ∙ bare in
+    let made : m ≡ numbered l c.in-Some.index =
+    ap f c.in_ok-base-in-Some-first_char-2.ensures.ok ∙ c.expression.ensures
+    ∙ by_itself f c.new.result.items (numbered l c.in-Some.index) (numbered l c.in-Some.index) c.new.ensures.items refl in
     subst (λ w. IfOk c.field_of_text.result (λ x. expr_field f x ≡ w))
     (more_indices l m y c.in-Some.index c.in-Some-first_char.field-0-0
     c.in-Some-first_char-2.field-0.0 (chars c.in-Some-first_char.behind.now) (chars c.args.text.now)

@@ -46,8 +46,7 @@ returns-in_ok-name-in-0-default g c =
     c.called-in-0-default.result.now _ _ c.args.own.now
     (dot_parts c.args.own.now c.pair.result.0.now c.pair.result.1.now c.pair-2.result.0.now c.pair-2.result.1.now
     c.called.result.now _ c.pair.ensures c.pair-2.ensures c.called.ensures c.requires.own
-    ∙ ap (t.Pair (t.Pair c.pair-2.result.0.now (t.Called the_indices c.called.result.now)))
-    (n ∙ ap t.First (called_is the_name ident _ _ h c.called-in-0-default.ensures)))
+    ∙ ap (t.Pair (t.Pair c.pair-2.result.0.now (t.Called the_indices c.called.result.now))) (n ∙ ap t.First (called_is the_name ident _ _ h c.called-in-0-default.ensures)))
     c.in_ok-base.ensures c.sign.ensures c.in_ok-name-in-0-default.ensures)
 
 pub field_of_text-requires : goal.field_of_text-requires
@@ -75,6 +74,5 @@ returns-in_ok-literal-in_default g c =
     c.called-in_default.result.now _ c.args.own.now (literal_text c.in_ok-literal-in_default.literal)
     (dot_parts c.args.own.now c.pair.result.0.now c.pair.result.1.now c.pair-2.result.0.now c.pair-2.result.1.now
     c.called.result.now _ c.pair.ensures c.pair-2.ensures c.called.ensures c.requires.own
-    ∙ ap (t.Pair (t.Pair c.pair-2.result.0.now (t.Called the_indices c.called.result.now)))
-    (n ∙ ap t.Second (called_is the_value (literal are_indices) _ _ h c.called-in_default.ensures)))
+    ∙ ap (t.Pair (t.Pair c.pair-2.result.0.now (t.Called the_indices c.called.result.now))) (n ∙ ap t.Second (called_is the_value (literal are_indices) _ _ h c.called-in_default.ensures)))
     c.in_ok-base.ensures c.in_ok-literal-in_default.ensures.text refl) c.field_of_text.ensures

@@ -57,10 +57,8 @@ returns g c =
     (t.Pair c.four.result.1.now (t.Pair c.four.result.2.now c.four.result.3.now)) _ _ c.args.own.now
     (dot_parts c.args.own.now c.four.result.0.now
     (t.Pair c.four.result.1.now (t.Pair c.four.result.2.now c.four.result.3.now)) c.pair.result.0.now
-    c.pair.result.1.now c.called.result.now _ c.four.ensures c.pair.ensures c.called.ensures c.requires.own)
-    c.in_ok-receiver.ensures c.sign.ensures
-    (three_kept _ c.four.result.1.now c.four.result.2.now c.four.result.3.now _ _ _ refl
+    c.pair.result.1.now c.called.result.now _ c.four.ensures c.pair.ensures c.called.ensures c.requires.own) c.in_ok-receiver.ensures
+    c.sign.ensures (three_kept _ c.four.result.1.now c.four.result.2.now c.four.result.3.now _ _ _ refl
     (called_kept the_name ident _ _ _ (parts k.ExprMethodCall c.four.ensures c.requires.own).1.0
     c.called-2.ensures c.in_ok-method.ensures)
-    c.in_ok-turbofish.ensures
-    (ap (t.Group delimiter.Parenthesis) c.in_ok-args.ensures ∙ sym (ap kept c.group.ensures))))
+    c.in_ok-turbofish.ensures (ap (t.Group delimiter.Parenthesis) c.in_ok-args.ensures ∙ sym (ap kept c.group.ensures))))

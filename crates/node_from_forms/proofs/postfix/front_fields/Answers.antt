@@ -1,4 +1,4 @@
-use Rattle.std.proofs.Common.{◌<◌, ◌≤◌, ◌∙◌, ap, arith, length}
+use Rattle.std.proofs.Common.{◌≡◌, ◌<◌, ◌≤◌, ◌∙◌, ap, arith, length}
 use Rattle.rust_leaf.specs.Leaf.{literal_text}
 use Rattle.syn_grammar.specs.Gram.{literal}
 use Rattle.syn_grammar.specs.Kept.{index_fields}

@@ -35,8 +35,8 @@ picked-requires g c =
     let passed = end_passes 44 (λ y. not (is_base y)) es o
     (subst (λ y. each_separated (λ z. not (is_base z)) y ≡ true) c.elements.ensures
     (fields_pass c.node.result.now c.group.result.1.now _ c.node.ensures.shaped d)) in
-    let fewer = end_fewer 44 es o (g.R.Reader.bound c.args.below.now) (omega (arith,
-    ap node_count c.node.ensures.node, ap node_count d, ap node_count c.elements.ensures, c.requires.fewer)) in
+    let fewer = end_fewer 44 es o _ (omega (arith, ap node_count c.node.ensures.node, ap node_count d,
+    ap node_count c.elements.ensures, c.requires.fewer)) in
     (omega arith, (c.requires.ready, ((sees the_end, shaped), (passed, fewer))))
 
 pub field_or_base-requires-clause-fewer : goal.field_or_base-requires-clause-fewer

@@ -179,8 +179,8 @@ returns g c =
     (x ∙ ap (λ v. t.Node k.AnImpl (t.First v)) c.eight.ensures)) in
     let s = t.Pair (where_of f c.in_ok-generics.generics) (enclosed c.in_ok-brace_token.brace_token
     (t.Pair (inner_attributes f a) (t.Node k.ImplItems (turns (impl_item f) c.in_ok-brace_token.members.items)))) in
-    let j = ap (λ v. impl_head f c.in_ok-trait_.field-0.trait_ (type_ f v) s) c.in_ok-new.ensures.ok
-    ∙ c.in_ok-trait_.ensures s
+    let j = ap (λ v. impl_head f c.in_ok-trait_.trait_ (type_ f v) s) c.in_ok-new.ensures.ok ∙
+    c.in_ok-trait_.ensures s
     ∙ ap (t.Pair (kept r.6.now)) (three_kept r.7.now z.0.now z.1.now z.2.now (kept z.0.now) _ _ c.three.ensures refl
     (ap (conditions f) c.in_ok-generics.ensures.clause ∙ c.in_ok-conditions.ensures)
     c.in_ok-brace_token.ensures.content) in

@@ -11,6 +11,7 @@ use Rattle.reader_tree.specs.Size.{node_count}
 use Rattle.node_take.proofs.Keeps.{pair_kept}
 use Rattle.node_words.specs.Words.{all_listed, enclosed}
 use Rattle.node_views.specs.Imports.{use_tree, use_branch, use_name}
+use Rattle.node_from.proofs.Joined.{first_of_two, second_of_two}
 use Rattle.node_from_items.specs.Imports.{behind_name}
 use Rattle.node_from_items.proofs.FileForms.{made_other}
 use Rattle.node_from_items.proofs.Fronts.{chosen_at, chosen_is}
@@ -67,28 +68,28 @@ branch-alternative-requires m c = (table k.UseBranch, refl, c.node.ensures.shape
 pub branch-sign-requires : goal.branch-sign-requires
 unfolding table signs.marks signs.sign
 branch-sign-requires m c =
-    let e : c.node.result.now ≡ t.First c.alternative.result.1.now = cc in
+    let e : c.node.result.now ≡ t.First c.alternative.result.1.now = cc (first_of_two c.alternative.result.1.now) in
     (omega arith, (seq_parts (table k.UseBranch) e c.node.ensures.shaped))
 
 pub branch-pair-requires : goal.branch-pair-requires
 unfolding table
 branch-pair-requires m c =
     let n : c.alternative.result.0 ≡ 1 = omega arith in
-    let e : c.node.result.now ≡ t.Second c.alternative.result.1.now = cc in
+    let e : c.node.result.now ≡ t.Second c.alternative.result.1.now = cc (second_of_two c.alternative.result.1.now) in
     (_, _, (seq_parts (table k.UseBranch) e c.node.ensures.shaped))
 
 pub branch-use_name-requires : goal.branch-use_name-requires
 unfolding table
 branch-use_name-requires m c =
     let n : c.alternative.result.0 ≡ 1 = omega arith in
-    let e : c.node.result.now ≡ t.Second c.alternative.result.1.now = cc in
+    let e : c.node.result.now ≡ t.Second c.alternative.result.1.now = cc (second_of_two c.alternative.result.1.now) in
     (seq_parts _ c.pair.ensures (seq_parts (table k.UseBranch) e c.node.ensures.shaped)).0
 
 pub branch-named-requires : goal.branch-named-requires
 unfolding table
 branch-named-requires m c =
     let n : c.alternative.result.0 ≡ 1 = omega arith in
-    let e : c.node.result.now ≡ t.Second c.alternative.result.1.now = cc in
+    let e : c.node.result.now ≡ t.Second c.alternative.result.1.now = cc (second_of_two c.alternative.result.1.now) in
     (omega (arith, c.decreases, ap node_count c.node.ensures.node, ap node_count e, ap node_count c.pair.ensures),
     (seq_parts _ c.pair.ensures (seq_parts (table k.UseBranch) e c.node.ensures.shaped)).1)
 
@@ -116,7 +117,7 @@ use_tree-alternative-requires m c = (table k.UseTree, refl, c.node.ensures.shape
 pub use_tree-use_trees-requires : goal.use_tree-use_trees-requires
 unfolding table
 use_tree-use_trees-requires m c =
-    let e : c.node.result.now ≡ t.First c.alternative.result.1.now = cc in
+    let e : c.node.result.now ≡ t.First c.alternative.result.1.now = cc (first_of_two c.alternative.result.1.now) in
     (omega (arith, c.decreases, ap node_count c.node.ensures.node, ap node_count e, ap node_count c.group.ensures),
     (_, (seq_parts _ c.group.ensures (seq_parts (table k.UseTree) e c.node.ensures.shaped)).1))
 
@@ -124,7 +125,7 @@ pub use_tree-branch-alloc-requires : goal.use_tree-branch-alloc-requires
 unfolding table
 use_tree-branch-alloc-requires m c =
     let n : c.alternative.result.0 ≡ 1 = omega arith in
-    let e : c.node.result.now ≡ t.Second c.alternative.result.1.now = cc in
+    let e : c.node.result.now ≡ t.Second c.alternative.result.1.now = cc (second_of_two c.alternative.result.1.now) in
     (omega (arith, c.decreases, ap node_count c.node.ensures.node, ap node_count e), (seq_parts (table k.UseTree) e
     c.node.ensures.shaped))
 
@@ -157,7 +158,7 @@ named-returns-in_default m c =
 pub branch-returns-in-0-default : goal.branch-returns-in-0-default
 unfolding held
 branch-returns-in-0-default m c =
-    let e : c.node.result.now ≡ t.First c.alternative.result.1.now = cc in
+    let e : c.node.result.now ≡ t.First c.alternative.result.1.now = cc (first_of_two c.alternative.result.1.now) in
     glob_made (record { star_token = c.sign.result })
     ∙ ap (λ y. t.Node k.UseTree (t.Second y)) (ap (λ y. t.Node k.UseBranch (t.First y)) c.sign.ensures
     ∙ sym (ap kept (c.node.ensures.node ∙ ap (t.Node k.UseBranch) e)))
@@ -166,7 +167,7 @@ pub branch-returns-in_ok-use_name-in_default : goal.branch-returns-in_ok-use_nam
 unfolding held
 branch-returns-in_ok-use_name-in_default m c =
     let n : c.alternative.result.0 ≡ 1 = omega arith in
-    let e : c.node.result.now ≡ t.Second c.alternative.result.1.now = cc in
+    let e : c.node.result.now ≡ t.Second c.alternative.result.1.now = cc (second_of_two c.alternative.result.1.now) in
     made_other c.named.result use_tree _ _ c.named.ensures
     (ap (λ y. use_branch (t.Second y)) (pair_kept _ _ _ _ _ c.pair.ensures c.in_ok-use_name-in_default.ensures refl)
     ∙ ap (λ y. t.Node k.UseTree (t.Second y)) (sym (ap kept (c.node.ensures.node ∙ ap (t.Node k.UseBranch) e))))
@@ -174,7 +175,7 @@ branch-returns-in_ok-use_name-in_default m c =
 pub use_tree-returns-in_ok-items-in-0-default : goal.use_tree-returns-in_ok-items-in-0-default
 unfolding held
 use_tree-returns-in_ok-items-in-0-default m c =
-    let e : c.node.result.now ≡ t.First c.alternative.result.1.now = cc in
+    let e : c.node.result.now ≡ t.First c.alternative.result.1.now = cc (first_of_two c.alternative.result.1.now) in
     let d = c.group.result.0 in
     group_made (record { brace_token = d; items = c.in_ok-items-in-0-default.items })
     ∙ ap (λ y. t.Node k.UseTree (t.First (enclosed d y))) c.in_ok-items-in-0-default.ensures
@@ -184,7 +185,7 @@ pub use_tree-returns-in_default : goal.use_tree-returns-in_default
 unfolding held
 use_tree-returns-in_default m c =
     let n : c.alternative.result.0 ≡ 1 = omega arith in
-    let e : c.node.result.now ≡ t.Second c.alternative.result.1.now = cc in
+    let e : c.node.result.now ≡ t.Second c.alternative.result.1.now = cc (second_of_two c.alternative.result.1.now) in
     made_other c.branch-alloc.result use_tree _ _ c.branch-alloc.ensures
     (sym (ap kept (c.node.ensures.node ∙ ap (t.Node k.UseTree) e)))
 

@@ -10,7 +10,7 @@ use Rattle.syn_grammar.specs.Tree as t
 use Rattle.syn_grammar.specs.Verdicts.{has_root}
 use Rattle.node_words.specs.Words.{all_listed, enclosed}
 use Rattle.node_views.specs.Imports.{use_tree, rooted}
-use Rattle.node_from.proofs.Joined.{first_of_two}
+use Rattle.node_from.proofs.Joined.{first_of_two, second_of_two}
 use Rattle.node_from_items.specs.Imports.{top, whole}
 use Rattle.node_from_items.proofs.ImportMade.{group_made}
 use Rattle.node_from_items.proofs.Pieces.{seq_parts}
@@ -43,14 +43,14 @@ pub use_rooted-branch-alloc-requires : goal.use_rooted-branch-alloc-requires
 unfolding table
 use_rooted-branch-alloc-requires m c =
     let n : c.alternative.result.0 ≡ 1 = omega arith in
-    let e : c.node.result.now ≡ t.Second c.alternative.result.1.now = cc in
+    let e : c.node.result.now ≡ t.Second c.alternative.result.1.now = cc (second_of_two c.alternative.result.1.now) in
     (seq_parts (table k.UseRooted) e c.node.ensures.shaped)
 
 pub top-returns : goal.top-returns
 unfolding held
 top-returns m c =
     let n : c.alternative.result.0 ≡ 1 = omega arith in
-    let e : c.node.result.now ≡ t.Second c.alternative.result.1.now = cc in
+    let e : c.node.result.now ≡ t.Second c.alternative.result.1.now = cc (second_of_two c.alternative.result.1.now) in
     IfOk-weaker c.use_rooted.result (λ x. rooted (use_tree x) ≡ kept c.alternative.result.1.now)
     (λ x. top x ≡ kept c.args.tree.now) (λ x h. ap (λ y. t.Node k.UseTop (t.Second y)) h
     ∙ sym (ap kept (c.node.ensures.node ∙ ap (t.Node k.UseTop) e))) c.use_rooted.ensures
@@ -58,7 +58,7 @@ top-returns m c =
 pub use_rooted-returns-in_ok-items-in-0-default : goal.use_rooted-returns-in_ok-items-in-0-default
 unfolding held
 use_rooted-returns-in_ok-items-in-0-default m c =
-    let e : c.node.result.now ≡ t.First c.alternative.result.1.now = cc in
+    let e : c.node.result.now ≡ t.First c.alternative.result.1.now = cc (first_of_two c.alternative.result.1.now) in
     let d = c.group.result.0 in
     ap rooted (group_made (record { brace_token = d; items = c.in_ok-items-in-0-default.items }))
     ∙ ap (λ y. t.Node k.UseRooted (t.First (enclosed d y))) c.in_ok-items-in-0-default.ensures
@@ -68,7 +68,7 @@ pub use_rooted-returns-in_default : goal.use_rooted-returns-in_default
 unfolding held
 use_rooted-returns-in_default m c =
     let n : c.alternative.result.0 ≡ 1 = omega arith in
-    let e : c.node.result.now ≡ t.Second c.alternative.result.1.now = cc in
+    let e : c.node.result.now ≡ t.Second c.alternative.result.1.now = cc (second_of_two c.alternative.result.1.now) in
     IfOk-weaker c.branch-alloc.result (λ x. use_tree x ≡ whole (kept c.alternative.result.1.now))
     (λ x. rooted (use_tree x) ≡ kept c.args.tree.now) (λ x h. ap rooted h
     ∙ sym (ap kept (c.node.ensures.node ∙ ap (t.Node k.UseRooted) e))) c.branch-alloc.ensures

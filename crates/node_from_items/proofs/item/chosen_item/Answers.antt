@@ -1,4 +1,4 @@
-use Rattle.std.proofs.Common.{◌∙◌, ◌≡◌, ap, arith, inl, inr, subst, sym}
+use Rattle.std.proofs.Common.{◌∙◌, ◌≡◌, ap, arith, subst, sym}
 use Rattle.syn_grammar.specs.Gram.{ref}
 use Rattle.syn_grammar.specs.Kept.{kept}
 use Rattle.syn_grammar.specs.Kind as k
@@ -11,7 +11,7 @@ use Rattle.node_views.specs.Items.{item_of}
 use Rattle.node_words.specs.Words.{alternative}
 use Rattle.node_from_items.specs.Numbers.{by_unsafe, what_is_kept}
 use Rattle.node_from_items.specs.Values.{own}
-use Rattle.node_from_items.proofs.FileForms.{foreign_chosen, impl_chosen, made_other, mod_chosen}
+use Rattle.node_from_items.proofs.FileForms.{either_way, foreign_chosen, impl_chosen, made_other, mod_chosen}
 use Rattle.node_from_items.proofs.FileForms.{no_other_item, private_of, trait_chosen}
 use Rattle.node_from_items.proofs.Verdicts.{file_alias, file_constant, file_foreign, file_function, file_impl}
 use Rattle.node_from_items.proofs.Verdicts.{file_macro, file_static, file_use}
@@ -61,7 +61,8 @@ returns-in_ok-item_extern_crate-in-1 g c =
 pub item_foreign_mod-requires-clause-shaped : goal.item_foreign_mod-requires-clause-shaped
 item_foreign_mod-requires-clause-shaped g c =
     let f = c.args.form.now in
-    subst (λ n. IsShaped (among 22 n f) item_form) c.in-2.is c.requires.shaped
+    either_way (λ n. IsShaped (among 22 n f) item_form) 2 8 c.args.which c.in-2.is c.requires.shaped
+    (λ h. h) (λ h. h)
 
 pub returns-in_ok-item_foreign_mod-in-2 : goal.returns-in_ok-item_foreign_mod-in-2
 returns-in_ok-item_foreign_mod-in-2 g c =
@@ -69,30 +70,13 @@ returns-in_ok-item_foreign_mod-in-2 g c =
     let f = c.args.form.now in
     let a = c.args.front.attrs.items in
     let v = visibility r c.args.front.vis in
-    let s : IsShaped f (ref k.AForeignModule) =
-    subst (λ n. IsShaped (among 22 n f) item_form) c.in-2.is c.requires.shaped in
+    let s : IsShaped f (ref (k.AForeignModule)) =
+    either_way (λ n. IsShaped (among 22 n f) item_form) 2 8 c.args.which c.in-2.is c.requires.shaped
+    (λ h. h) (λ h. h) in
     made_other c.of_foreign_mod.result r _ _ c.of_foreign_mod.ensures (c.in_ok-item_foreign_mod-in-2.ensures
     ∙ ap (λ y. item_of r a y (by_unsafe (is_unsafe (own f)) 2 8 (kept f)))
     (sym (private_of r c.args.front.vis (file_foreign _ f s c.requires.verdict)))
-    ∙ ap (λ y. item_of r a v y) (foreign_chosen c.args.which f (inl c.in-2.is) s c.requires.numbered))
-
-pub item_foreign_mod-requires-in-8-clause-shaped : goal.item_foreign_mod-requires-in-8-clause-shaped
-item_foreign_mod-requires-in-8-clause-shaped g c =
-    let f = c.args.form.now in
-    subst (λ n. IsShaped (among 22 n f) item_form) c.in-8.is c.requires.shaped
-
-pub returns-in_ok-item_foreign_mod-in-8 : goal.returns-in_ok-item_foreign_mod-in-8
-returns-in_ok-item_foreign_mod-in-8 g c =
-    let r = g.R.Reader.view in
-    let f = c.args.form.now in
-    let a = c.args.front.attrs.items in
-    let v = visibility r c.args.front.vis in
-    let s : IsShaped f (ref k.AForeignModule) =
-    subst (λ n. IsShaped (among 22 n f) item_form) c.in-8.is c.requires.shaped in
-    made_other c.of_foreign_mod-in-8.result r _ _ c.of_foreign_mod-in-8.ensures (c.in_ok-item_foreign_mod-in-8.ensures
-    ∙ ap (λ y. item_of r a y (by_unsafe (is_unsafe (own f)) 2 8 (kept f)))
-    (sym (private_of r c.args.front.vis (file_foreign _ f s c.requires.verdict)))
-    ∙ ap (λ y. item_of r a v y) (foreign_chosen c.args.which f (inr c.in-8.is) s c.requires.numbered))
+    ∙ ap (λ y. item_of r a v y) (foreign_chosen c.args.which f c.in-2.is s c.requires.numbered))
 
 -- item_use
 
@@ -175,7 +159,8 @@ returns-in_ok-item_const-in-7 g c =
 pub item_mod-requires-clause-shaped : goal.item_mod-requires-clause-shaped
 item_mod-requires-clause-shaped g c =
     let f = c.args.form.now in
-    subst (λ n. IsShaped (among 22 n f) item_form) c.in-9.is c.requires.shaped
+    either_way (λ n. IsShaped (among 22 n f) item_form) 9 12 c.args.which c.in-9.is c.requires.shaped
+    (λ h. h) (λ h. h)
 
 pub returns-in_ok-item_mod-in-9 : goal.returns-in_ok-item_mod-in-9
 returns-in_ok-item_mod-in-9 g c =
@@ -183,39 +168,26 @@ returns-in_ok-item_mod-in-9 g c =
     let f = c.args.form.now in
     let a = c.args.front.attrs.items in
     let v = visibility r c.args.front.vis in
-    let s : IsShaped f (ref k.AModule) =
-    subst (λ n. IsShaped (among 22 n f) item_form) c.in-9.is c.requires.shaped in
+    let s : IsShaped f (ref (k.AModule)) =
+    either_way (λ n. IsShaped (among 22 n f) item_form) 9 12 c.args.which c.in-9.is c.requires.shaped
+    (λ h. h) (λ h. h) in
     made_other c.of_mod.result r _ _ c.of_mod.ensures (c.in_ok-item_mod-in-9.ensures
-    ∙ ap (λ y. item_of r a v y) (mod_chosen c.args.which f (inl c.in-9.is) s c.requires.numbered))
-
-pub item_mod-requires-in-12-clause-shaped : goal.item_mod-requires-in-12-clause-shaped
-item_mod-requires-in-12-clause-shaped g c =
-    let f = c.args.form.now in
-    subst (λ n. IsShaped (among 22 n f) item_form) c.in-12.is c.requires.shaped
-
-pub returns-in_ok-item_mod-in-12 : goal.returns-in_ok-item_mod-in-12
-returns-in_ok-item_mod-in-12 g c =
-    let r = g.R.Reader.view in
-    let f = c.args.form.now in
-    let a = c.args.front.attrs.items in
-    let v = visibility r c.args.front.vis in
-    let s : IsShaped f (ref k.AModule) =
-    subst (λ n. IsShaped (among 22 n f) item_form) c.in-12.is c.requires.shaped in
-    made_other c.of_mod-in-12.result r _ _ c.of_mod-in-12.ensures (c.in_ok-item_mod-in-12.ensures
-    ∙ ap (λ y. item_of r a v y) (mod_chosen c.args.which f (inr c.in-12.is) s c.requires.numbered))
+    ∙ ap (λ y. item_of r a v y) (mod_chosen c.args.which f c.in-9.is s c.requires.numbered))
 
 -- item_impl
 
 pub item_impl-requires-clause-shaped : goal.item_impl-requires-clause-shaped
 item_impl-requires-clause-shaped g c =
     let f = c.args.form.now in
-    subst (λ n. IsShaped (among 22 n f) item_form) c.in-10.is c.requires.shaped
+    either_way (λ n. IsShaped (among 22 n f) item_form) 10 19 c.args.which c.in-10.is c.requires.shaped
+    (λ h. h) (λ h. h)
 
 pub item_impl-requires-clause-plain : goal.item_impl-requires-clause-plain
 item_impl-requires-clause-plain g c =
     let f = c.args.form.now in
-    let s : IsShaped f (ref k.AnImpl) =
-    subst (λ n. IsShaped (among 22 n f) item_form) c.in-10.is c.requires.shaped in
+    let s : IsShaped f (ref (k.AnImpl)) =
+    either_way (λ n. IsShaped (among 22 n f) item_form) 10 19 c.args.which c.in-10.is c.requires.shaped
+    (λ h. h) (λ h. h) in
     (file_impl _ f s c.requires.verdict).0
 
 pub returns-in_ok-item_impl-in-10 : goal.returns-in_ok-item_impl-in-10
@@ -224,44 +196,21 @@ returns-in_ok-item_impl-in-10 g c =
     let f = c.args.form.now in
     let a = c.args.front.attrs.items in
     let v = visibility r c.args.front.vis in
-    let s : IsShaped f (ref k.AnImpl) =
-    subst (λ n. IsShaped (among 22 n f) item_form) c.in-10.is c.requires.shaped in
+    let s : IsShaped f (ref (k.AnImpl)) =
+    either_way (λ n. IsShaped (among 22 n f) item_form) 10 19 c.args.which c.in-10.is c.requires.shaped
+    (λ h. h) (λ h. h) in
     made_other c.of_impl.result r _ _ c.of_impl.ensures (c.in_ok-item_impl-in-10.ensures
     ∙ ap (λ y. item_of r a y (by_unsafe (is_unsafe_impl (what_is_kept (own f))) 19 10 (kept f)))
     (sym (private_of r c.args.front.vis (file_impl _ f s c.requires.verdict).1))
-    ∙ ap (λ y. item_of r a v y) (impl_chosen c.args.which f (inl c.in-10.is) s c.requires.numbered))
-
-pub item_impl-requires-in-19-clause-shaped : goal.item_impl-requires-in-19-clause-shaped
-item_impl-requires-in-19-clause-shaped g c =
-    let f = c.args.form.now in
-    subst (λ n. IsShaped (among 22 n f) item_form) c.in-19.is c.requires.shaped
-
-pub item_impl-requires-in-19-clause-plain : goal.item_impl-requires-in-19-clause-plain
-item_impl-requires-in-19-clause-plain g c =
-    let f = c.args.form.now in
-    let s : IsShaped f (ref k.AnImpl) =
-    subst (λ n. IsShaped (among 22 n f) item_form) c.in-19.is c.requires.shaped in
-    (file_impl _ f s c.requires.verdict).0
-
-pub returns-in_ok-item_impl-in-19 : goal.returns-in_ok-item_impl-in-19
-returns-in_ok-item_impl-in-19 g c =
-    let r = g.R.Reader.view in
-    let f = c.args.form.now in
-    let a = c.args.front.attrs.items in
-    let v = visibility r c.args.front.vis in
-    let s : IsShaped f (ref k.AnImpl) =
-    subst (λ n. IsShaped (among 22 n f) item_form) c.in-19.is c.requires.shaped in
-    made_other c.of_impl-in-19.result r _ _ c.of_impl-in-19.ensures (c.in_ok-item_impl-in-19.ensures
-    ∙ ap (λ y. item_of r a y (by_unsafe (is_unsafe_impl (what_is_kept (own f))) 19 10 (kept f)))
-    (sym (private_of r c.args.front.vis (file_impl _ f s c.requires.verdict).1))
-    ∙ ap (λ y. item_of r a v y) (impl_chosen c.args.which f (inr c.in-19.is) s c.requires.numbered))
+    ∙ ap (λ y. item_of r a v y) (impl_chosen c.args.which f c.in-10.is s c.requires.numbered))
 
 -- item_traits
 
 pub item_traits-requires-clause-shaped : goal.item_traits-requires-clause-shaped
 item_traits-requires-clause-shaped g c =
     let f = c.args.form.now in
-    subst (λ n. IsShaped (among 22 n f) item_form) c.in-11.is c.requires.shaped
+    either_way (λ n. IsShaped (among 22 n f) item_form) 11 18 c.args.which c.in-11.is c.requires.shaped
+    (λ h. h) (λ h. h)
 
 pub returns-in_ok-item_traits-in-11 : goal.returns-in_ok-item_traits-in-11
 returns-in_ok-item_traits-in-11 g c =
@@ -269,26 +218,11 @@ returns-in_ok-item_traits-in-11 g c =
     let f = c.args.form.now in
     let a = c.args.front.attrs.items in
     let v = visibility r c.args.front.vis in
-    let s : IsShaped f (ref k.ATrait) =
-    subst (λ n. IsShaped (among 22 n f) item_form) c.in-11.is c.requires.shaped in
+    let s : IsShaped f (ref (k.ATrait)) =
+    either_way (λ n. IsShaped (among 22 n f) item_form) 11 18 c.args.which c.in-11.is c.requires.shaped
+    (λ h. h) (λ h. h) in
     made_other c.of_traits.result r _ _ c.of_traits.ensures (c.in_ok-item_traits-in-11.ensures
-    ∙ ap (λ y. item_of r a v y) (trait_chosen c.args.which f (inl c.in-11.is) s c.requires.numbered))
-
-pub item_traits-requires-in-18-clause-shaped : goal.item_traits-requires-in-18-clause-shaped
-item_traits-requires-in-18-clause-shaped g c =
-    let f = c.args.form.now in
-    subst (λ n. IsShaped (among 22 n f) item_form) c.in-18.is c.requires.shaped
-
-pub returns-in_ok-item_traits-in-18 : goal.returns-in_ok-item_traits-in-18
-returns-in_ok-item_traits-in-18 g c =
-    let r = g.R.Reader.view in
-    let f = c.args.form.now in
-    let a = c.args.front.attrs.items in
-    let v = visibility r c.args.front.vis in
-    let s : IsShaped f (ref k.ATrait) =
-    subst (λ n. IsShaped (among 22 n f) item_form) c.in-18.is c.requires.shaped in
-    made_other c.of_traits-in-18.result r _ _ c.of_traits-in-18.ensures (c.in_ok-item_traits-in-18.ensures
-    ∙ ap (λ y. item_of r a v y) (trait_chosen c.args.which f (inr c.in-18.is) s c.requires.numbered))
+    ∙ ap (λ y. item_of r a v y) (trait_chosen c.args.which f c.in-11.is s c.requires.numbered))
 
 -- item_type
 

@@ -1,10 +1,8 @@
 use Rattle.std.specs.Prelude.{refl, ◌≡◌}
 use Rattle.std.proofs.Common.{◌∙◌, ap, subst, arith}
-use Rattle.syn_grammar.specs.Gram.{called, nothing}
+use Rattle.syn_grammar.specs.Gram.{called}
 use Rattle.syn_grammar.specs.Kind as k
-use Rattle.syn_grammar.specs.Look.{◌then◌, no, sees}
-use Rattle.syn_grammar.specs.Name.{the_default, the_item}
-use Rattle.syn_grammar.specs.Say.{◌∶◌, at, keyword, marks}
+use Rattle.syn_grammar.specs.Name.{the_item}
 use Rattle.syn_grammar.specs.Tree as t
 use Rattle.reader_tree.specs.Size.{node_count}
 use Rattle.node_shapes.specs.Shape.{IsShaped}
@@ -40,9 +38,7 @@ what_stands_in_front-requires-clause-visibility_fewer g c =
 
 pub defaultness-word-requires : goal.defaultness-word-requires
 defaultness-word-requires g c =
-    other_test (sees (at "default" then no (marks "!"))) (sees (at "default")) c.four.result.2.now
-    (the_default ∶ keyword "default") nothing
-    (seq_parts (member_parts k.InImpl) c.four.ensures c.requires.shaped).1.1.0
+    other_test _ _ _ _ _ (seq_parts (member_parts k.InImpl) c.four.ensures c.requires.shaped).1.1.0
 
 pub called-requires : goal.called-requires
 called-requires g c = (_, _, (seq_parts (member_parts k.InImpl) c.four.ensures c.requires.shaped).1.1.1)

@@ -13,11 +13,12 @@ use Rattle.node_take.proofs.Keeps.{six_kept}
 use Rattle.node_words.specs.Words.{alternative}
 use Rattle.node_views.specs.Generics.{visibility}
 use Rattle.node_views.specs.Items.{item_of, by_unsafety}
+use Rattle.node_from.proofs.Joined.{first_of_two, second_of_two}
 use Rattle.node_from_items.specs.Numbers.{by_unsafe, what_is_kept}
 use Rattle.node_from_items.specs.Values.{own}
 use Rattle.node_from_items.proofs.TraitForms.{alias_plain, not_there}
 use Rattle.node_from_items.proofs.Numbers.{by_number}
-use Rattle.node_from_items.proofs.Pieces.{first_of, parts, second_of, seq_parts}
+use Rattle.node_from_items.proofs.Pieces.{parts, seq_parts}
 use Rattle.node_from_items.proofs.traits.item_traits.Goals as goal
 
 pub node-requires : goal.node-requires
@@ -64,8 +65,7 @@ pub alias_of-requires-clause-behind : goal.alias_of-requires-clause-behind
 unfolding table
 alias_of-requires-clause-behind g c =
     let o = c.alternative.result.1.now in
-    let m : c.alternative.result.0 ≡ 0 = omega arith in
-    let n = first_of c.alternative.result.0 c.six.result.5.now o c.alternative.ensures.chosen m in
+    let n : c.six.result.5.now ≡ t.First o = cc (first_of_two o) in
     seq_parts _ n (seq_parts trait_form c.six.ensures (parts k.ATrait c.kept-inner.ensures
     c.node.ensures.shaped).1).1.1.1.1.1
 
@@ -77,8 +77,7 @@ alias_of-requires-clause-params_fewer g c =
 pub alias_of-requires-clause-behind_fewer : goal.alias_of-requires-clause-behind_fewer
 alias_of-requires-clause-behind_fewer g c =
     let o = c.alternative.result.1.now in
-    let m : c.alternative.result.0 ≡ 0 = omega arith in
-    let n = first_of c.alternative.result.0 c.six.result.5.now o c.alternative.ensures.chosen m in
+    let n : c.six.result.5.now ≡ t.First o = cc (first_of_two o) in
     omega (arith, ap node_count c.node.ensures.node, ap node_count c.kept-inner.ensures, ap node_count
     c.six.ensures, ap node_count n, c.requires.fewer)
 
@@ -95,7 +94,7 @@ unfolding table
 trait_of-requires-clause-behind g c =
     let o = c.alternative.result.1.now in
     let m : c.alternative.result.0 ≡ 1 = omega arith in
-    let n = second_of c.alternative.result.0 c.six.result.5.now o c.alternative.ensures.chosen m in
+    let n : c.six.result.5.now ≡ t.Second o = cc (second_of_two o) in
     seq_parts _ n (seq_parts trait_form c.six.ensures (parts k.ATrait c.kept-inner.ensures
     c.node.ensures.shaped).1).1.1.1.1.1
 
@@ -108,7 +107,7 @@ pub trait_of-requires-clause-behind_fewer : goal.trait_of-requires-clause-behind
 trait_of-requires-clause-behind_fewer g c =
     let o = c.alternative.result.1.now in
     let m : c.alternative.result.0 ≡ 1 = omega arith in
-    let n = second_of c.alternative.result.0 c.six.result.5.now o c.alternative.ensures.chosen m in
+    let n : c.six.result.5.now ≡ t.Second o = cc (second_of_two o) in
     omega (arith, ap node_count c.node.ensures.node, ap node_count c.kept-inner.ensures, ap node_count
     c.six.ensures, ap node_count n, c.requires.fewer)
 
@@ -123,8 +122,7 @@ returns-in_ok-alias_of-in-0-default g c =
     let v = visibility f c.args.front.vis in
     let s = c.six.result in
     let o = c.alternative.result.1.now in
-    let m : c.alternative.result.0 ≡ 0 = omega arith in
-    let n = first_of c.alternative.result.0 c.six.result.5.now o c.alternative.ensures.chosen m in
+    let n : c.six.result.5.now ≡ t.First o = cc (first_of_two o) in
     let y = c.kept-inner.ensures ∙ ap t.First (c.six.ensures
     ∙ ap (λ z. t.Pair s.0.now (t.Pair s.1.now (t.Pair s.2.now (t.Pair s.3.now (t.Pair s.4.now z))))) n) in
     let x = c.node.ensures.node ∙ ap (t.Node k.ATrait) y in
@@ -149,7 +147,7 @@ returns-in_ok-trait_of-in_default g c =
     let w = kept c.args.tree.now in
     let o = c.alternative.result.1.now in
     let m : c.alternative.result.0 ≡ 1 = omega arith in
-    let n = second_of c.alternative.result.0 c.six.result.5.now o c.alternative.ensures.chosen m in
+    let n : c.six.result.5.now ≡ t.Second o = cc (second_of_two o) in
     let x = c.node.ensures.node ∙ ap (t.Node k.ATrait) c.kept-inner.ensures in
     let b = c.unsafety.ensures.there ∙ sym (ap (λ z. is_unsafe (what_is_kept (own z)))
     (x ∙ ap (λ z. t.Node k.ATrait (t.First z)) c.six.ensures)) in

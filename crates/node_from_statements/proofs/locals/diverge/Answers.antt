@@ -15,12 +15,9 @@ pub called-requires : goal.called-requires
 called-requires g c = (_, _, seq_parts else_part c.in-Some.ensures c.requires.shaped)
 
 pub pair-requires : goal.pair-requires
-pair-requires g c = (
-  _,
-  _,
-  called_shaped the_else else_words _ _ (seq_parts else_part c.in-Some.ensures c.requires.shaped)
-      c.called.ensures,
-)
+pair-requires g c =
+    (_, _, called_shaped the_else else_words _ _ (seq_parts else_part c.in-Some.ensures c.requires.shaped)
+    c.called.ensures)
 
 pub plain_block-requires-clause-shaped : goal.plain_block-requires-clause-shaped
 plain_block-requires-clause-shaped g c =
@@ -29,21 +26,14 @@ plain_block-requires-clause-shaped g c =
 
 pub plain_block-requires-clause-fewer : goal.plain_block-requires-clause-fewer
 plain_block-requires-clause-fewer g c =
-    omega (
-      arith,
-      ap node_count c.in-Some.ensures,
-      ap node_count c.called.ensures.1,
-      ap node_count c.pair.ensures,
-      c.requires.fewer,
-    )
+    omega (arith, ap node_count c.in-Some.ensures, ap node_count c.called.ensures.1, ap node_count c.pair.ensures,
+    c.requires.fewer)
 
 pub keyword-requires : goal.keyword-requires
 unfolding word
-keyword-requires g c = (
-  omega arith,
-  (seq_parts else_words c.pair.ensures (called_shaped the_else else_words _ _
-      (seq_parts else_part c.in-Some.ensures c.requires.shaped) c.called.ensures)).0,
-)
+keyword-requires g c =
+    (omega arith, (seq_parts else_words c.pair.ensures (called_shaped the_else else_words _ _
+    (seq_parts else_part c.in-Some.ensures c.requires.shaped) c.called.ensures)).0)
 
 pub returns-in_ok-block-in-Some : goal.returns-in_ok-block-in-Some
 returns-in_ok-block-in-Some g c =

@@ -33,23 +33,13 @@ local_pattern-requires-clause-ty g c =
 
 pub local_pattern-requires-clause-pattern_fewer : goal.local_pattern-requires-clause-pattern_fewer
 local_pattern-requires-clause-pattern_fewer g c =
-    omega (
-      arith,
-      ap node_count c.node.ensures.node,
-      ap node_count c.kept-parts.ensures,
-      ap node_count c.five.ensures,
-      c.requires.fewer,
-    )
+    omega (arith, ap node_count c.node.ensures.node, ap node_count c.kept-parts.ensures, ap node_count c.five.ensures,
+    c.requires.fewer)
 
 pub local_pattern-requires-clause-type_fewer : goal.local_pattern-requires-clause-type_fewer
 local_pattern-requires-clause-type_fewer g c =
-    omega (
-      arith,
-      ap node_count c.node.ensures.node,
-      ap node_count c.kept-parts.ensures,
-      ap node_count c.five.ensures,
-      c.requires.fewer,
-    )
+    omega (arith, ap node_count c.node.ensures.node, ap node_count c.kept-parts.ensures, ap node_count c.five.ensures,
+    c.requires.fewer)
 
 pub local_init-requires-clause-shaped : goal.local_init-requires-clause-shaped
 unfolding table
@@ -62,13 +52,8 @@ local_init-requires-clause-closed g c =
 
 pub local_init-requires-clause-fewer : goal.local_init-requires-clause-fewer
 local_init-requires-clause-fewer g c =
-    omega (
-      arith,
-      ap node_count c.node.ensures.node,
-      ap node_count c.kept-parts.ensures,
-      ap node_count c.five.ensures,
-      c.requires.fewer,
-    )
+    omega (arith, ap node_count c.node.ensures.node, ap node_count c.kept-parts.ensures, ap node_count c.five.ensures,
+    c.requires.fewer)
 
 pub returns : goal.returns
 unfolding held

@@ -26,13 +26,8 @@ expression-requires-clause-shaped g c =
 
 pub expression-requires-clause-fewer : goal.expression-requires-clause-fewer
 expression-requires-clause-fewer g c =
-    omega (
-      arith,
-      ap node_count c.in-Some.ensures,
-      ap node_count c.three.ensures,
-      ap node_count c.called.ensures.1,
-      c.requires.fewer,
-    )
+    omega (arith, ap node_count c.in-Some.ensures, ap node_count c.three.ensures, ap node_count c.called.ensures.1,
+    c.requires.fewer)
 
 pub diverge-requires-clause-shaped : goal.diverge-requires-clause-shaped
 diverge-requires-clause-shaped g c =

@@ -12,7 +12,7 @@ use Rattle.node_take.proofs.Keeps.{pair_kept}
 use Rattle.node_views.specs.Statements.{let_pattern}
 use Rattle.node_from_forms.proofs.Parts.{called_kept, called_shaped, seq_parts}
 use Rattle.node_from_statements.specs.StatementParts.{typed}
-use Rattle.node_from_statements.proofs.LetParts.{typed_kept, untyped}
+use Rattle.node_from_statements.proofs.LetParts.{typed_pattern, untyped}
 use Rattle.node_from_statements.proofs.locals.local_pattern.Goals as goal
 
 pub pair-requires : goal.pair-requires
@@ -29,23 +29,18 @@ child-requires-in-Some-clause-shaped g c =
 
 pub child-requires-in-Some-clause-fewer : goal.child-requires-in-Some-clause-fewer
 child-requires-in-Some-clause-fewer g c =
-    omega (
-      arith,
-      ap node_count c.in-Some.ensures,
-      ap node_count c.pair.ensures,
-      ap node_count c.called.ensures.1,
-      c.requires.type_fewer,
-    )
+    omega (arith, ap node_count c.in-Some.ensures, ap node_count c.pair.ensures, ap node_count c.called.ensures.1,
+    c.requires.type_fewer)
 
 pub returns-in_ok-ty-in-Some : goal.returns-in_ok-ty-in-Some
 returns-in_ok-ty-in-Some g c =
     let f = g.R.Reader.view in
     let h = (seq_parts typed (c.in-Some.ensures ∙ ap t.First c.pair.ensures) c.requires.ty).1 in
-    λ y. typed_kept f c.new.result.items _ _ _ _ y (kept c.args.pattern.now) (kept c.args.ty.now) c.new.ensures.items
-    c.pattern.ensures c.in_ok-pat-in-Some.ensures
-    (ap t.First (pair_kept _ _ _ _ _ c.pair.ensures c.sign.ensures
-    (called_kept the_type (ref (k.AType k.WithPlus)) _ _ _ h c.called.ensures c.in_ok-ty-in-Some.ensures))
-    ∙ sym (ap kept c.in-Some.ensures))
+    λ y. typed_pattern f c.new.result.items _ _ _ _ y c.new.ensures.items c.pattern.ensures
+    ∙ ap (λ z. t.Pair z _) c.in_ok-pat-in-Some.ensures
+    ∙ ap (λ z. t.Pair (kept c.args.pattern.now) (t.Pair z y)) (ap t.First (pair_kept _ _ _ _ _ c.pair.ensures
+    c.sign.ensures (called_kept the_type (ref (k.AType k.WithPlus)) _ _ _ h c.called.ensures
+    c.in_ok-ty-in-Some.ensures)) ∙ sym (ap kept c.in-Some.ensures))
 
 pub returns-in-None : goal.returns-in-None
 returns-in-None g c =

@@ -55,15 +55,9 @@ mac-requires-clause-shaped g c =
 
 pub mac-requires-clause-fewer : goal.mac-requires-clause-fewer
 mac-requires-clause-fewer g c =
-    omega (
-      arith,
-      ap node_count c.three.ensures,
-      ap node_count c.called-2.ensures.1,
-      ap node_count c.node-expr.ensures.node,
-      ap node_count c.whole-form.ensures.whole,
-      ap node_count c.in-Some-macro_part.ensures,
-      c.requires.fewer,
-    )
+    omega (arith, ap node_count c.three.ensures, ap node_count c.called-2.ensures.1,
+    ap node_count c.node-expr.ensures.node, ap node_count c.whole-form.ensures.whole,
+    ap node_count c.in-Some-macro_part.ensures, c.requires.fewer)
 
 pub returns-in_ok-mac-in-Some-macro_part : goal.returns-in_ok-mac-in-Some-macro_part
 returns-in_ok-mac-in-Some-macro_part g c =
@@ -78,14 +72,8 @@ plain_stmt-requires-clause-begins g c =
 
 pub plain_stmt-requires-clause-fewer : goal.plain_stmt-requires-clause-fewer
 plain_stmt-requires-clause-fewer g c =
-    omega (
-      arith,
-      ap node_count c.three.ensures,
-      ap node_count c.called-2.ensures.1,
-      ap node_count c.node-expr.ensures.node,
-      ap node_count c.whole-form.ensures.whole,
-      c.requires.fewer,
-    )
+    omega (arith, ap node_count c.three.ensures, ap node_count c.called-2.ensures.1,
+    ap node_count c.node-expr.ensures.node, ap node_count c.whole-form.ensures.whole, c.requires.fewer)
 
 pub returns-in-None-macro_part : goal.returns-in-None-macro_part
 returns-in-None-macro_part g c =
@@ -109,14 +97,8 @@ plain_stmt-requires-in-None-clause-begins g c =
 
 pub plain_stmt-requires-in-None-clause-fewer : goal.plain_stmt-requires-in-None-clause-fewer
 plain_stmt-requires-in-None-clause-fewer g c =
-    omega (
-      arith,
-      ap node_count c.three.ensures,
-      ap node_count c.called-2.ensures.1,
-      ap node_count c.node-expr.ensures.node,
-      ap node_count c.whole-form.ensures.whole,
-      c.requires.fewer,
-    )
+    omega (arith, ap node_count c.three.ensures, ap node_count c.called-2.ensures.1,
+    ap node_count c.node-expr.ensures.node, ap node_count c.whole-form.ensures.whole, c.requires.fewer)
 
 pub returns-in-None : goal.returns-in-None
 returns-in-None g c =

@@ -23,12 +23,8 @@ node-requires-in-0-clause-shaped g c =
 pub node-requires-in-0-clause-fewer : goal.node-requires-in-0-clause-fewer
 node-requires-in-0-clause-fewer g c =
     let a = c.alternative-which in
-    omega (
-      arith,
-      ap node_count c.node.ensures.node,
-      ap node_count (a.ensures.chosen ∙ ap (λ n. among 4 n a.result.1.now) c.in-0.is),
-      c.requires.fewer,
-    )
+    omega (arith, ap node_count c.node.ensures.node,
+    ap node_count (a.ensures.chosen ∙ ap (λ n. among 4 n a.result.1.now) c.in-0.is), c.requires.fewer)
 
 pub returns-in_ok-node-in-0 : goal.returns-in_ok-node-in-0
 returns-in_ok-node-in-0 g c =
@@ -39,11 +35,9 @@ returns-in_ok-node-in-0 g c =
 pub three-requires : goal.three-requires
 unfolding table
 three-requires g c =
-    let a = c.alternative-which in (
-      macro_words,
-      refl,
-      parts k.AStatement (a.ensures.chosen ∙ ap (λ n. among 4 n a.result.1.now) c.in-1.is) c.node.ensures.shaped,
-    )
+    let a = c.alternative-which in
+    (macro_words, refl,
+    parts k.AStatement (a.ensures.chosen ∙ ap (λ n. among 4 n a.result.1.now) c.in-1.is) c.node.ensures.shaped)
 
 pub outer_attributes-requires-clause-shaped : goal.outer_attributes-requires-clause-shaped
 unfolding table
@@ -55,13 +49,9 @@ outer_attributes-requires-clause-shaped g c =
 pub outer_attributes-requires-clause-fewer : goal.outer_attributes-requires-clause-fewer
 outer_attributes-requires-clause-fewer g c =
     let a = c.alternative-which in
-    omega (
-      arith,
-      ap node_count c.node.ensures.node,
-      ap node_count (a.ensures.chosen ∙ ap (λ n. among 4 n a.result.1.now) c.in-1.is),
-      ap node_count c.three.ensures,
-      c.requires.fewer,
-    )
+    omega (arith, ap node_count c.node.ensures.node,
+    ap node_count (a.ensures.chosen ∙ ap (λ n. among 4 n a.result.1.now) c.in-1.is), ap node_count c.three.ensures,
+    c.requires.fewer)
 
 pub mac-requires-clause-shaped : goal.mac-requires-clause-shaped
 unfolding table
@@ -73,13 +63,9 @@ mac-requires-clause-shaped g c =
 pub mac-requires-clause-fewer : goal.mac-requires-clause-fewer
 mac-requires-clause-fewer g c =
     let a = c.alternative-which in
-    omega (
-      arith,
-      ap node_count c.node.ensures.node,
-      ap node_count (a.ensures.chosen ∙ ap (λ n. among 4 n a.result.1.now) c.in-1.is),
-      ap node_count c.three.ensures,
-      c.requires.fewer,
-    )
+    omega (arith, ap node_count c.node.ensures.node,
+    ap node_count (a.ensures.chosen ∙ ap (λ n. among 4 n a.result.1.now) c.in-1.is), ap node_count c.three.ensures,
+    c.requires.fewer)
 
 pub semicolon-requires : goal.semicolon-requires
 unfolding table
@@ -113,13 +99,9 @@ outer_attributes-requires-in-2-clause-shaped g c =
 pub outer_attributes-requires-in-2-clause-fewer : goal.outer_attributes-requires-in-2-clause-fewer
 outer_attributes-requires-in-2-clause-fewer g c =
     let a = c.alternative-which in
-    omega (
-      arith,
-      ap node_count c.node.ensures.node,
-      ap node_count (a.ensures.chosen ∙ ap (λ n. among 4 n a.result.1.now) c.in-2.is),
-      ap node_count c.pair.ensures,
-      c.requires.fewer,
-    )
+    omega (arith, ap node_count c.node.ensures.node,
+    ap node_count (a.ensures.chosen ∙ ap (λ n. among 4 n a.result.1.now) c.in-2.is), ap node_count c.pair.ensures,
+    c.requires.fewer)
 
 pub local-requires-clause-shaped : goal.local-requires-clause-shaped
 unfolding table
@@ -131,13 +113,9 @@ local-requires-clause-shaped g c =
 pub local-requires-clause-fewer : goal.local-requires-clause-fewer
 local-requires-clause-fewer g c =
     let a = c.alternative-which in
-    omega (
-      arith,
-      ap node_count c.node.ensures.node,
-      ap node_count (a.ensures.chosen ∙ ap (λ n. among 4 n a.result.1.now) c.in-2.is),
-      ap node_count c.pair.ensures,
-      c.requires.fewer,
-    )
+    omega (arith, ap node_count c.node.ensures.node,
+    ap node_count (a.ensures.chosen ∙ ap (λ n. among 4 n a.result.1.now) c.in-2.is), ap node_count c.pair.ensures,
+    c.requires.fewer)
 
 pub returns-in_ok-local-in-2 : goal.returns-in_ok-local-in-2
 unfolding held
@@ -157,12 +135,8 @@ node-requires-in-3-clause-shaped g c =
 pub node-requires-in-3-clause-fewer : goal.node-requires-in-3-clause-fewer
 node-requires-in-3-clause-fewer g c =
     let a = c.alternative-which in
-    omega (
-      arith,
-      ap node_count c.node.ensures.node,
-      ap node_count (a.ensures.chosen ∙ ap (λ n. among 4 n a.result.1.now) c.in-3.is),
-      c.requires.fewer,
-    )
+    omega (arith, ap node_count c.node.ensures.node,
+    ap node_count (a.ensures.chosen ∙ ap (λ n. among 4 n a.result.1.now) c.in-3.is), c.requires.fewer)
 
 pub returns-in_ok-node-in-3 : goal.returns-in_ok-node-in-3
 returns-in_ok-node-in-3 g c =
@@ -181,12 +155,8 @@ pub expr_stmt-requires-clause-fewer : goal.expr_stmt-requires-clause-fewer
 expr_stmt-requires-clause-fewer g c =
     let a = c.alternative-which in
     let w : a.result.0 ≡ 4 = omega (arith, a.ensures.which) in
-    omega (
-      arith,
-      ap node_count c.node.ensures.node,
-      ap node_count (a.ensures.chosen ∙ ap (λ n. among 4 n a.result.1.now) w),
-      c.requires.fewer,
-    )
+    omega (arith, ap node_count c.node.ensures.node,
+    ap node_count (a.ensures.chosen ∙ ap (λ n. among 4 n a.result.1.now) w), c.requires.fewer)
 
 pub returns-in_default : goal.returns-in_default
 unfolding held
