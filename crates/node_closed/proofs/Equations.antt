@@ -52,10 +52,10 @@ use Rattle.node_closed.proofs.Types.{type_mapped}
 
 -- nodes
 
-pub view_expr : (x : Expr Node) → node_view (nodes.Expr x) ≡ expr node_view x
+pub view_expr : (x : Box (Expr Node) Global) → node_view (nodes.Expr x) ≡ expr node_view x.value
 view_expr x =
     ap node_view (sym (nodes.rolls-Expr x)) ∙ fold-roll-Node Tree Tree item_step node_step (layer.Expr x)
-    ∙ expr_mapped node_view x
+    ∙ expr_mapped node_view x.value
 
 pub view_item : (x : Box Item Global) → node_view (nodes.Item x) ≡ item_view x.value
 view_item x = ap node_view (sym (nodes.rolls-Item x)) ∙ fold-roll-Node Tree Tree item_step node_step (layer.Item x)
@@ -65,15 +65,15 @@ view_meta x =
     ap node_view (sym (nodes.rolls-Meta x)) ∙ fold-roll-Node Tree Tree item_step node_step (layer.Meta x)
     ∙ meta_mapped node_view x.value
 
-pub view_pat : (x : Pat Node) → node_view (nodes.Pat x) ≡ pat node_view x
+pub view_pat : (x : Box (Pat Node) Global) → node_view (nodes.Pat x) ≡ pat node_view x.value
 view_pat x =
     ap node_view (sym (nodes.rolls-Pat x)) ∙ fold-roll-Node Tree Tree item_step node_step (layer.Pat x)
-    ∙ pat_mapped node_view x
+    ∙ pat_mapped node_view x.value
 
-pub view_type : (x : Type' Node) → node_view (nodes.«Type» x) ≡ type_ node_view x
+pub view_type : (x : Box (Type' Node) Global) → node_view (nodes.«Type» x) ≡ type_ node_view x.value
 view_type x =
     ap node_view (sym (nodes.rolls-Type x)) ∙ fold-roll-Node Tree Tree item_step node_step (layer.Node::Type x)
-    ∙ type_mapped node_view x
+    ∙ type_mapped node_view x.value
 
 -- items
 

@@ -34,11 +34,11 @@ item_step (layer.Verbatim x) = verbatim x
 
 -- A node, of the trees that the nodes in it are: an item is its own tree.
 abbrev pub node_step : Node-F Tree Tree → Tree
-node_step (layer.Expr x) = expr (λ y. y) x
+node_step (layer.Expr x) = expr (λ y. y) x.value
 node_step (layer.Item x) = x.value
 node_step (layer.Meta x) = meta (λ y. y) x.value
-node_step (layer.Pat x) = pat (λ y. y) x
-node_step (layer.Node::Type x) = type_ (λ y. y) x
+node_step (layer.Pat x) = pat (λ y. y) x.value
+node_step (layer.Node::Type x) = type_ (λ y. y) x.value
 
 -- What an item is as a tree: by its variant, where each node in it is what `node_view` says.
 abbrev pub item_view : Item → Tree

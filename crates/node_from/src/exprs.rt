@@ -14,7 +14,7 @@ ghost use Rattle.syn_grammar.specs.Table.{table};
 ghost use Rattle.syn_grammar.specs.Tree as t;
 
 use crate::lists::Expressions;
-use crate::{Reader, What, child};
+use crate::{Reader, What};
 use node_expressions::atom::{ExprArray, ExprParen, ExprRepeat, ExprTuple};
 use node_expressions::call::{ExprCall, ExprIndex, ExprTry};
 use node_expressions::operator::{ExprBinary, ExprReference, ExprUnary};
@@ -41,7 +41,7 @@ pub fn expression<E: Drop, R: Reader<E>>(
     ensures { IfOk result (λ x. words.expression (R.view x) ≡ kept tree.now) }
 {
     let form = take::whole(take::node(Kind::Expression(position), tree));
-    child(below, What::Form, form)
+    below.node(What::Form, form)
 }
 
 /// Parentheses: one expression without a comma, or a tuple.
@@ -71,7 +71,7 @@ pub fn expr_call<E: Drop, R: Reader<E>>(
     requires own_fewer { node_count own.now ≤ R.bound below.now }
     ensures { IfOk result (λ x. views.expr_call R.view x ≡ t.Back (kept left.now) k.ExprCall (kept own.now)) }
 {
-    let func = child(below, What::Form, left)?;
+    let func = below.node(What::Form, left)?;
     let (paren_token, inside) = take::group(own);
     let args = take::separated(&Expressions { below }, ',', inside)?;
     Ok(ExprCall {
@@ -100,7 +100,7 @@ pub fn expr_index<E: Drop, R: Reader<E>>(
     requires own_fewer { node_count own.now ≤ R.bound below.now }
     ensures { IfOk result (λ x. views.expr_index R.view x ≡ t.Back (kept left.now) k.ExprIndex (kept own.now)) }
 {
-    let expr = child(below, What::Form, left)?;
+    let expr = below.node(What::Form, left)?;
     let (bracket_token, inside) = take::group(own);
     let index = expression(below, Position::Plain, inside)?;
     Ok(ExprIndex {
@@ -129,7 +129,7 @@ pub fn expr_try<E: Drop, R: Reader<E>>(
     requires own_fewer { node_count own.now ≤ R.bound below.now }
     ensures { IfOk result (λ x. views.expr_try R.view x ≡ t.Back (kept left.now) k.ExprTry (kept own.now)) }
 {
-    let expr = child(below, What::Form, left)?;
+    let expr = below.node(What::Form, left)?;
     Ok(ExprTry {
         attrs: Vec::new(below.alloc()),
         expr,
@@ -160,7 +160,7 @@ pub fn expr_reference<E: Drop, R: Reader<E>>(
         attrs: Vec::new(below.alloc()),
         and_token: take::sign(and_token),
         mutability: take::optional_keyword(mutability),
-        expr: child(below, What::Form, right)?,
+        expr: below.node(What::Form, right)?,
     })
 }
 
@@ -199,7 +199,7 @@ pub fn expr_unary<E: Drop, R: Reader<E>>(
     Ok(ExprUnary {
         attrs: Vec::new(below.alloc()),
         op: un_op(own),
-        expr: child(below, What::Form, right)?,
+        expr: below.node(What::Form, right)?,
     })
 }
 
@@ -376,8 +376,8 @@ pub fn expr_binary<E: Drop, R: Reader<E>>(
     ensures { IfOk result (λ x. views.expr_binary R.view x ≡ t.Infix (kept left.now) (views.bin_op_kind op)
         (views.bin_op op) (kept right.now)) }
 {
-    let left = child(below, What::Form, left)?;
-    let right = child(below, What::Form, right)?;
+    let left = below.node(What::Form, left)?;
+    let right = below.node(What::Form, right)?;
     Ok(ExprBinary {
         attrs: Vec::new(below.alloc()),
         left,

@@ -16,7 +16,7 @@ use crate::abi::optional_abi;
 use crate::attributes::outer_attributes;
 use crate::bounds::optional_lifetimes;
 use crate::names::name_or;
-use crate::{Reader, What, child};
+use crate::{Reader, What};
 use node_paths::path::ReturnType;
 use node_take as take;
 use node_take::list::Make;
@@ -40,8 +40,8 @@ fn returned<E: Drop, R: Reader<E>>(
     ensures { IfOk result (λ x. R.view x ≡ kept tree.now) }
 {
     match plus {
-        Plus::WithPlus => child(below, What::WithPlus, tree),
-        Plus::WithoutPlus => child(below, What::WithoutPlus, tree),
+        Plus::WithPlus => below.node(What::WithPlus, tree),
+        Plus::WithoutPlus => below.node(What::WithoutPlus, tree),
     }
 }
 

@@ -89,21 +89,3 @@ pub trait Reader<E> {
         requires fewer { node_count tree.now < bound self.now }
         ensures { IfOk result (λ x. view x ≡ made what (kept tree.now)) };
 }
-
-/// A child: the node that a tree is.
-///
-/// # Errors
-///
-/// Where there is no memory for it.
-pub fn child<E: Drop, R: Reader<E>>(
-    below: &R,
-    what: What,
-    tree: &Tree<'_>,
-) -> Result<E, AllocError>
-    requires ready { R.ready below.now }
-    requires shaped { IsWhat what tree.now }
-    requires fewer { node_count tree.now < R.bound below.now }
-    ensures { IfOk result (λ x. R.view x ≡ made what (kept tree.now)) }
-{
-    Ok(below.node(what, tree)?)
-}

@@ -11,7 +11,7 @@ ghost use Rattle.syn_grammar.specs.Kept.{kept};
 ghost use Rattle.syn_grammar.specs.Kind as k;
 
 use crate::lists::{Arguments, Types};
-use crate::{Reader, What, child};
+use crate::{Reader, What};
 use node_paths::path::{
     AngleBracketedGenericArguments, AssocType, GenericArgument, ParenthesizedGenericArguments,
     ReturnType,
@@ -59,7 +59,7 @@ fn output<E: Drop, R: Reader<E>>(below: &R, tree: &Tree<'_>) -> Result<ReturnTyp
     match take::optional(tree) {
         Some(behind) => {
             let (arrow, ty) = take::pair(behind);
-            let ty = child(below, What::WithoutPlus, ty)?;
+            let ty = below.node(What::WithoutPlus, ty)?;
             Ok(ReturnType::Type(take::sign(arrow), ty))
         }
         None => Ok(ReturnType::Default),

@@ -13,7 +13,7 @@ ghost use Rattle.syn_grammar.specs.Say.{sign};
 ghost use Rattle.syn_grammar.specs.Tree as t;
 
 use crate::segments::{path, push_segments};
-use crate::{Reader, What, child};
+use crate::{Reader, What};
 use node_paths::path::{Path, QSelf};
 use node_take as take;
 use reader_table::kind::{Kind, Style};
@@ -96,7 +96,7 @@ fn qualified_path<E: Drop, R: Reader<E>>(
     let inner = take::node(Kind::QualifiedPath(style), tree);
     let (lt_token, ty, as_trait, gt_token, mark, behind) = take::six(inner);
     let lt_token = take::sign(lt_token);
-    let ty = child(below, What::WithPlus, ty)?;
+    let ty = below.node(What::WithPlus, ty)?;
     let gt_token = take::sign(gt_token);
     match take::optional(as_trait) {
         Some(as_trait) => {

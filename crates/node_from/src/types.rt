@@ -20,7 +20,7 @@ use crate::exprs::expression;
 use crate::fn_pointers::type_fn_ptr;
 use crate::lists::{Types, list_of_one};
 use crate::qualified::any_path;
-use crate::{Reader, What, child};
+use crate::{Reader, What};
 use node_paths::bound::TypeParamBound;
 use node_take as take;
 use node_types::Type;
@@ -52,7 +52,7 @@ pub fn type_reference<E: Drop, R: Reader<E>>(
     let inner = take::node(Kind::ReferenceType, tree);
     let (and_token, lifetime, mutability, elem) = take::four(inner);
     let lifetime = take::optional_lifetime(lifetime)?;
-    let elem = child(below, What::WithoutPlus, elem)?;
+    let elem = below.node(What::WithoutPlus, elem)?;
     Ok(TypeReference {
         and_token: take::sign(and_token),
         lifetime,
@@ -112,7 +112,7 @@ pub fn type_ptr<E: Drop, R: Reader<E>>(below: &R, tree: &Tree<'_>) -> Result<Typ
     Ok(TypePtr {
         star_token: take::sign(star_token),
         mutability: pointer_mutability(mutability),
-        elem: child(below, What::WithoutPlus, elem)?,
+        elem: below.node(What::WithoutPlus, elem)?,
     })
 }
 
@@ -131,7 +131,7 @@ pub fn type_tuple<E: Drop, R: Reader<E>>(below: &R, tree: &Tree<'_>) -> Result<T
     let (paren_token, inside) = take::group(take::node(Kind::TupleType, tree));
     match take::lone(',', inside) {
         Some(elem) => {
-            let elem = child(below, What::WithPlus, elem)?;
+            let elem = below.node(What::WithPlus, elem)?;
             Ok(Type::Paren(TypeParen { paren_token, elem }))
         }
         None => {
@@ -176,7 +176,7 @@ pub fn type_bracket<E: Drop, R: Reader<E>>(
 {
     let (bracket_token, inside) = take::group(take::node(Kind::BracketType, tree));
     let (elem, behind) = take::pair(inside);
-    let elem = child(below, What::WithPlus, elem)?;
+    let elem = below.node(What::WithPlus, elem)?;
     match take::optional(behind) {
         Some(behind) => {
             let (semi_token, len) = take::pair(behind);

@@ -24,7 +24,7 @@ use node_expressions::block::{
 use node_expressions::statement::Stmt;
 use node_from::attributes::push_inner_attributes;
 use node_from::exprs::expression;
-use node_from::{What, child};
+use node_from::What;
 use node_paths::attribute::Attribute;
 use node_take as take;
 use reader_table::kind::{Kind, Position};
@@ -322,7 +322,7 @@ pub fn expr_for_loop<E: Drop, R: Maker<E>>(
 {
     let (named, for_token, pat, in_token, expr, inside) = take::six(own);
     let label = label(named)?;
-    let pat = child(below, What::Pattern, pat)?;
+    let pat = below.node(What::Pattern, pat)?;
     let expr = expression(below, Position::InCondition, take::called(expr))?;
     let (attrs, body) = body(below, inside)?;
     Ok(ExprForLoop {

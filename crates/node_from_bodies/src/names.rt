@@ -14,7 +14,7 @@ ghost use Rattle.syn_grammar.specs.Tree as t;
 
 use crate::Maker;
 use crate::literals::signed;
-use node_from::{What, child};
+use node_from::What;
 use node_patterns::kinds::{PatIdent, PatLit};
 use node_take as take;
 use reader_table::kind::Kind;
@@ -37,7 +37,7 @@ fn subpattern<E: Drop, R: Maker<E>>(
         (0, _) => unreachable!(),
         (1, behind) => {
             let (at, pat) = take::pair(behind);
-            Ok(Some((take::sign(at), child(below, What::OnePattern, pat)?)))
+            Ok(Some((take::sign(at), below.node(What::OnePattern, pat)?)))
         }
         _ => Ok(None),
     }

@@ -18,7 +18,7 @@ use node_expressions::branch::ExprLet;
 use node_expressions::expr::Expr;
 use node_expressions::operator::{ExprAssign, ExprBinary, ExprCast, ExprRange, ExprRawAddr};
 use node_from::exprs::{compare_op, product_op, shift_op, sum_op};
-use node_from::{What, child};
+use node_from::What;
 use node_take as take;
 use node_take::Between;
 use node_types::kinds::PointerMutability;
@@ -42,7 +42,7 @@ pub fn optional_operand<E: Drop, R: Maker<E>>(
     ensures { IfOk result (λ x. held R.view x ≡ kept_of operand.entry) }
 {
     match operand {
-        Some(tree) => Ok(Some(child(below, What::Form, tree)?)),
+        Some(tree) => Ok(Some(below.node(What::Form, tree)?)),
         None => Ok(None),
     }
 }
@@ -92,7 +92,7 @@ pub fn expr_cast<E: Drop, R: Maker<E>>(
         ≡ t.Back (R.view expr) k.ExprCast (kept own.now)) }
 {
     let (as_token, ty, _) = take::three(own);
-    let ty = child(below, What::WithoutPlus, take::called(ty))?;
+    let ty = below.node(What::WithoutPlus, take::called(ty))?;
     Ok(ExprCast {
         attrs: Vec::new(below.alloc()),
         expr,
@@ -120,8 +120,8 @@ pub fn expr_let<E: Drop, R: Maker<E>>(
     ensures { IfOk result (λ x. views.expr_let R.view x ≡ t.Front k.ExprLet (kept own.now) (kept right.now)) }
 {
     let (let_token, pat, eq_token) = take::three(own);
-    let pat = child(below, What::Pattern, pat)?;
-    let expr = child(below, What::Form, right)?;
+    let pat = below.node(What::Pattern, pat)?;
+    let expr = below.node(What::Form, right)?;
     Ok(ExprLet {
         attrs: Vec::new(below.alloc()),
         let_token: take::keyword(let_token),
@@ -166,7 +166,7 @@ pub fn expr_raw_addr<E: Drop, R: Maker<E>>(
         ≡ t.Front k.ExprRawAddr (kept own.now) (kept right.now)) }
 {
     let (and_token, raw, mutability) = take::three(own);
-    let expr = child(below, What::Form, right)?;
+    let expr = below.node(What::Form, right)?;
     Ok(ExprRawAddr {
         attrs: Vec::new(below.alloc()),
         and_token: take::sign(and_token),

@@ -10,7 +10,7 @@ ghost use Rattle.syn_grammar.specs.Kind as k;
 
 use crate::Maker;
 use node_from::attributes::outer_attributes;
-use node_from::{What, child};
+use node_from::What;
 use node_patterns::Pat;
 use node_patterns::kinds::PatType;
 use node_take as take;
@@ -35,8 +35,8 @@ pub fn closure_param<E: Drop, R: Maker<E>>(below: &R, tree: &Tree<'_>) -> Result
     match take::optional(ty) {
         Some(behind) => {
             let (colon_token, ty) = take::pair(behind);
-            let pat = child(below, What::OnePattern, pattern)?;
-            let ty = child(below, What::WithPlus, ty)?;
+            let pat = below.node(What::OnePattern, pattern)?;
+            let ty = below.node(What::WithPlus, ty)?;
             Ok(below.pattern(Pat::Type(PatType {
                 attrs,
                 pat,

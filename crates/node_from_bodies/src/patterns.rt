@@ -12,7 +12,7 @@ ghost use Rattle.syn_grammar.specs.Kind as k;
 
 use crate::Maker;
 use crate::lists::Patterns;
-use node_from::{What, child};
+use node_from::What;
 use node_patterns::Pat;
 use node_patterns::kinds::{PatParen, PatReference, PatRest, PatSlice, PatTuple, PatWild};
 use node_take as take;
@@ -88,7 +88,7 @@ pub fn pat_tuple<E: Drop, R: Maker<E>>(below: &R, tree: &Tree<'_>) -> Result<Pat
     let attrs = Vec::new(below.alloc());
     if let Some(element) = take::lone(',', inside) {
         if !is_rest(element) {
-            let pat = child(below, What::Pattern, element)?;
+            let pat = below.node(What::Pattern, element)?;
             return Ok(Pat::Paren(PatParen {
                 attrs,
                 paren_token,
@@ -146,7 +146,7 @@ pub fn pat_reference<E: Drop, R: Maker<E>>(
         ≡ views.one_pattern (words.alternative 6 (kept tree.now))) }
 {
     let (and_token, mutability, pat) = take::three(take::node(Kind::ReferencePattern, tree));
-    let pat = child(below, What::OnePattern, pat)?;
+    let pat = below.node(What::OnePattern, pat)?;
     Ok(PatReference {
         attrs: Vec::new(below.alloc()),
         and_token: take::sign(and_token),

@@ -14,7 +14,7 @@ use node_expressions::closure::{ClosureModifiers, ExprClosure};
 use node_expressions::expr::Expr;
 use node_from::bounds::optional_lifetimes;
 use node_from::fn_pointers::return_type;
-use node_from::{What, child};
+use node_from::What;
 use node_from_bodies::Maker;
 use node_from_bodies::blocks::plain_block;
 use node_from_bodies::lists::Params;
@@ -76,7 +76,7 @@ pub fn expr_closure<E: Drop, R: Maker<E>>(
     ensures { IfOk result (λ x. views.expr_closure R.view x
         ≡ t.Front k.ExprClosure (kept own.now) (kept right.now)) }
 {
-    let body = child(below, What::Form, right)?;
+    let body = below.node(What::Form, right)?;
     with_head(below, own, ReturnType::Default, body)
 }
 

@@ -25,7 +25,7 @@ use node_from::exprs::{
     ParenOrTuple, expr_array, expr_call, expr_index, expr_reference, expr_repeat, expr_try,
     expr_unary, paren_or_tuple,
 };
-use node_from::{What, child};
+use node_from::What;
 use node_from_bodies::Maker;
 use node_from_bodies::atoms::{expr_group, expr_infer, expr_lit};
 use node_from_bodies::blocks::{
@@ -170,7 +170,7 @@ fn postfix<E: Drop, R: Maker<E>>(
         Behind::Index => Ok(Expr::Index(expr_index(below, left, own)?)),
         Behind::Try => Ok(Expr::Try(expr_try(below, left, own)?)),
         Behind::Cast => {
-            let operand = child(below, What::Form, left)?;
+            let operand = below.node(What::Form, left)?;
             Ok(Expr::Cast(expr_cast(below, operand, own)?))
         }
         Behind::Range => { Ok(Expr::Range(expr_range(below, Some(left), half_open(own), None)?)) }
@@ -202,8 +202,8 @@ fn between<E: Drop, R: Maker<E>>(
             Ok(Expr::Range(expr_range(below, Some(left), closed(own), Some(right))?))
         }
         _ => {
-            let left = child(below, What::Form, left)?;
-            let right = child(below, What::Form, right)?;
+            let left = below.node(What::Form, left)?;
+            let right = below.node(What::Form, right)?;
             Ok(infix(below, left, which, own, right))
         }
     }

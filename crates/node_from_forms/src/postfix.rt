@@ -18,7 +18,7 @@ use node_expressions::call::{ExprAwait, ExprField, ExprMethodCall};
 use node_expressions::expr::Expr;
 use node_from::lists::Expressions;
 use node_from::paths::angle_bracketed;
-use node_from::{What, child};
+use node_from::What;
 use node_from_bodies::Maker;
 use node_paths::path::AngleBracketedGenericArguments;
 use node_take as take;
@@ -79,7 +79,7 @@ fn front_fields<E: Drop, R: Maker<E>>(
     ensures { IfOk result (λ r. R.view r.0 ≡ fields_in_front (kept left.now) (kept numbers.now)) }
 {
     let mut dot_token = dot_token;
-    let mut base = child(below, What::Form, left)?;
+    let mut base = below.node(What::Form, left)?;
     let Turns { each } = take::all_turns(numbers);
     for number in each {
         let literal = take::literal(number)?;

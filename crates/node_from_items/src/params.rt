@@ -23,7 +23,7 @@ ghost use Rattle.syn_grammar.specs.Tree as t;
 ghost use Rattle.syn_kinds.specs.declared.keyword.Keyword.{Keyword};
 
 use node_from::attributes::outer_attributes;
-use node_from::{Reader, What, child};
+use node_from::{Reader, What};
 use node_items::function::{FnArg, Receiver, ReceiverKind, Variadic};
 use node_paths::attribute::Attribute;
 use node_patterns::kinds::PatType;
@@ -52,7 +52,7 @@ fn plain_kind<E: Drop, R: Reader<E>>(
     match take::optional(tree) {
         Some(behind) => {
             let (colon_token, ty) = take::pair(behind);
-            let ty = child(below, What::WithPlus, ty)?;
+            let ty = below.node(What::WithPlus, ty)?;
             Ok(ReceiverKind::Typed(take::sign(colon_token), ty))
         }
         None => Ok(ReceiverKind::Value),
@@ -170,8 +170,8 @@ fn unnamed_param<E: Drop, R: Reader<E>>(
         attrs.items ▸ alternative 2 (kept tree.now)))) }
 {
     let ty = take::called(tree);
-    let pat = child(below, What::Wild, ty)?;
-    let ty = child(below, What::WithPlus, ty)?;
+    let pat = below.node(What::Wild, ty)?;
+    let ty = below.node(What::WithPlus, ty)?;
     Ok(FnArg::Typed(PatType {
         attrs,
         pat,
@@ -195,7 +195,7 @@ fn pattern_param<E: Drop, R: Reader<E>>(
     ensures dots { IfOk result (λ x. has_dots x ≡ has n.the_dots tree.now) }
 {
     let (pattern, colon, behind) = take::three(tree);
-    let pat = child(below, What::OnePattern, take::called(pattern))?;
+    let pat = below.node(What::OnePattern, take::called(pattern))?;
     let colon_token = take::sign(colon);
     match take::alternative(1, behind) {
         (0, own) => Ok(dots(
@@ -204,7 +204,7 @@ fn pattern_param<E: Drop, R: Reader<E>>(
             take::sign(take::called(own)),
         )),
         (_, own) => {
-            let ty = child(below, What::WithPlus, take::called(own))?;
+            let ty = below.node(What::WithPlus, take::called(own))?;
             Ok(Param::Arg(FnArg::Typed(PatType {
                 attrs,
                 pat,

@@ -15,7 +15,7 @@ ghost use Rattle.syn_grammar.specs.Patterns.{is_rest};
 ghost use Rattle.syn_grammar.specs.Tree as t;
 
 use node_from::attributes::outer_attributes;
-use node_from::{What, child};
+use node_from::What;
 use node_from_bodies::Maker;
 use node_from_parts::members::member;
 use node_from_parts::picked::{Pick, picked};
@@ -67,7 +67,7 @@ fn long_field<E: Drop, R: Maker<E>>(
 {
     let (name, colon_token, pattern) = take::three(tree);
     let member = member(name)?;
-    let pat = child(below, What::Pattern, pattern)?;
+    let pat = below.node(What::Pattern, pattern)?;
     Ok(FieldPat {
         attrs,
         member,

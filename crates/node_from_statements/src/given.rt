@@ -10,7 +10,7 @@ ghost use Rattle.std.specs.Prelude.{[], ◌≡◌, ◌≤◌, IfOk, false};
 ghost use Rattle.syn_grammar.specs.Kept.{kept};
 
 use node_expressions::expr::Expr;
-use node_from::{What, child};
+use node_from::What;
 use node_from_bodies::Maker;
 use node_from_bodies::operators::{expr_cast, infix};
 use node_from_forms::dispatch::form;
@@ -77,7 +77,7 @@ pub fn attributed_form<E: Drop, R: Maker<E>>(
             _ => {
                 let first = attributed_form(below, attrs, left)?;
                 let left = below.expression(first)?;
-                let right = child(below, What::Form, right)?;
+                let right = below.node(What::Form, right)?;
                 Ok(infix(below, left, which, own, right))
             }
         },

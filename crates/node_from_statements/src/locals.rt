@@ -17,7 +17,7 @@ ghost use Rattle.syn_grammar.specs.Tree.{Tree as GivenTree};
 use node_expressions::expr::Expr;
 use node_expressions::statement::{Local, LocalInit, LocalModifiers};
 use node_from::exprs::expression;
-use node_from::{What, child};
+use node_from::What;
 use node_from_bodies::Maker;
 use node_from_bodies::blocks::plain_block;
 use node_paths::attribute::Attribute;
@@ -46,9 +46,9 @@ fn local_pattern<E: Drop, R: Maker<E>>(
 {
     match take::optional(ty) {
         Some(behind) => {
-            let pat = child(below, What::OnePattern, pattern)?;
+            let pat = below.node(What::OnePattern, pattern)?;
             let (colon_token, ty) = take::pair(behind);
-            let ty = child(below, What::WithPlus, take::called(ty))?;
+            let ty = below.node(What::WithPlus, take::called(ty))?;
             let typed = Pat::Type(PatType {
                 attrs: Vec::new(below.alloc()),
                 pat,

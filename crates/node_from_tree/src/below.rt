@@ -1,6 +1,6 @@
 //! What makes the nodes in one.
 
-ghost use Rattle.node_closed.specs.Views.{item_view, kind_view, node_view};
+ghost use Rattle.node_closed.specs.Views.{item_view, node_view};
 ghost use Rattle.node_from_bodies.specs.StatementParts.{a_statement};
 ghost use Rattle.node_from_tree.specs.Nests.{MakesNodes, MakesPatterns, MakesStatements};
 ghost use Rattle.node_shapes.specs.Shape.{IsShaped};
@@ -27,7 +27,7 @@ use node_items::{
 };
 use node_paths::attribute::Attribute;
 use node_patterns::Pat;
-use node_tree::{Item, Node, NodeKind};
+use node_tree::{Item, Node};
 use proc_macro2::tree::TokenStream;
 use reader_tree::tree::Tree;
 use std::alloc::{AllocError, Global};
@@ -84,13 +84,13 @@ impl<
     fn expression(&self, form: Expr<Node>) -> Result<Node, AllocError>
         ensures { IfOk result (λ x. node_view x ≡ expressions.expr node_view form) }
     {
-        of_kind(self.alloc, NodeKind::Expr(form))
+        Ok(Node::Expr(Box::new(self.alloc, form)?))
     }
 
     fn pattern(&self, pattern: Pat<Node>) -> Result<Node, AllocError>
         ensures { IfOk result (λ x. node_view x ≡ patterns.pat node_view pattern) }
     {
-        of_kind(self.alloc, NodeKind::Pat(pattern))
+        Ok(Node::Pat(Box::new(self.alloc, pattern)?))
     }
 
     fn attributed_pattern(
@@ -118,24 +118,12 @@ impl<
     }
 }
 
-/// The node of what it is.
-///
-/// # Errors
-///
-/// Where there is no memory for it.
-#[tactic(auto, using(node_closed::proofs::Equations::view_node))]
-pub fn of_kind(alloc: Global, kind: NodeKind) -> Result<Node, AllocError>
-    ensures { IfOk result (λ x. node_view x ≡ kind_view kind) }
-{
-    Ok(Node::new(alloc, kind)?)
-}
-
-// The node of an item.
+// An item, in a place of its own.
 #[tactic(auto, using(node_closed::proofs::Equations::node_equations))]
 fn placed(alloc: Global, item: Item) -> Result<Node, AllocError>
     ensures { IfOk result (λ x. node_view x ≡ item_view item) }
 {
-    Ok(of_kind(alloc, NodeKind::Item(item))?)
+    Ok(Node::Item(Box::new(alloc, item)?))
 }
 
 #[tactic(auto, using(node_closed::proofs::Equations::item_equations))]

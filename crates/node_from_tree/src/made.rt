@@ -6,13 +6,14 @@ ghost use Rattle.node_from_bodies.specs.StatementParts.{a_statement};
 ghost use Rattle.node_shapes.specs.Shape.{IsShaped};
 ghost use Rattle.node_views.specs.Patterns as patterns;
 ghost use Rattle.node_views.specs.Statements as statements;
+ghost use Rattle.node_views.specs.Types as types;
 ghost use Rattle.reader_tree.specs.Size.{node_count};
 ghost use Rattle.std.specs.Prelude.{◌≡◌, ◌<◌, ◌≤◌, IfOk};
 ghost use Rattle.syn_grammar.specs.Gram as g;
 ghost use Rattle.syn_grammar.specs.Kept.{kept};
 ghost use Rattle.syn_grammar.specs.Kind as k;
 
-use crate::below::{Below, of_kind};
+use crate::below::Below;
 use crate::metas::meta;
 use node_expressions::expr::Expr;
 use node_expressions::statement::Stmt;
@@ -27,11 +28,20 @@ use node_from_patterns::dispatch as from_patterns;
 use node_from_statements::statements::block_stmt;
 use node_paths::attribute::Attribute;
 use node_patterns::Pat;
-use node_tree::{Node, NodeKind};
+use node_tree::Node;
+use node_types::Type;
 use reader_table::kind::Plus;
 use reader_tree::tree::Tree;
 use std::alloc::{AllocError, Global};
 use syn_kinds::underscore::Underscore;
+
+// The node of a type.
+#[tactic(auto, using(node_closed::proofs::Equations::node_equations))]
+fn of_type(alloc: Global, ty: Type<Node>) -> Result<Node, AllocError>
+    ensures { IfOk result (λ x. node_view x ≡ types.type_ node_view ty) }
+{
+    Ok(Node::Type(Box::new(alloc, ty)?))
+}
 
 // The node that a tree is, by what makes those in it.
 #[tactic(auto, using(node_closed::proofs::Equations::node_equations))]
@@ -43,19 +53,19 @@ fn node_by<R: ItemMaker<Node>>(below: &R, what: What, tree: &Tree<'_>) -> Result
     ensures { IfOk result (λ x. node_view x ≡ made what (kept tree.now)) }
 {
     match what {
-        What::WithPlus => Ok(of_kind(below.alloc(), NodeKind::Type(type_(below, Plus::WithPlus, tree)?))?),
-        What::WithoutPlus => Ok(of_kind(below.alloc(), NodeKind::Type(type_(below, Plus::WithoutPlus, tree)?))?),
-        What::Form => Ok(of_kind(below.alloc(), NodeKind::Expr(form(below, tree)?))?),
-        What::Literal => Ok(of_kind(below.alloc(), NodeKind::Expr(Expr::Lit(expr_lit(below, tree)?)))?),
-        What::Block => Ok(of_kind(below.alloc(), NodeKind::Expr(Expr::Block(expr_body(below, tree)?)))?),
-        What::Name => Ok(of_kind(below.alloc(), NodeKind::Expr(Expr::Path(expr_name(below, tree)?)))?),
-        What::Meta => Ok(of_kind(below.alloc(), NodeKind::Meta(meta(below, tree)?))?),
-        What::Item => Ok(item(below, tree)?),
-        What::OnePattern => Ok(of_kind(below.alloc(), NodeKind::Pat(from_patterns::one_pattern(below, tree)?))?),
-        What::Pattern => Ok(of_kind(below.alloc(), NodeKind::Pat(from_patterns::pattern(below, tree)?))?),
+        What::WithPlus => of_type(below.alloc(), type_(below, Plus::WithPlus, tree)?),
+        What::WithoutPlus => of_type(below.alloc(), type_(below, Plus::WithoutPlus, tree)?),
+        What::Form => below.expression(form(below, tree)?),
+        What::Literal => below.expression(Expr::Lit(expr_lit(below, tree)?)),
+        What::Block => below.expression(Expr::Block(expr_body(below, tree)?)),
+        What::Name => below.expression(Expr::Path(expr_name(below, tree)?)),
+        What::Meta => Ok(Node::Meta(Box::new(below.alloc(), meta(below, tree)?)?)),
+        What::Item => item(below, tree),
+        What::OnePattern => below.pattern(from_patterns::one_pattern(below, tree)?),
+        What::Pattern => below.pattern(from_patterns::pattern(below, tree)?),
         What::Wild => {
             let wild = from_patterns::left_out(below, Underscore::default().span);
-            Ok(of_kind(below.alloc(), NodeKind::Pat(Pat::Wild(wild)))?)
+            below.pattern(Pat::Wild(wild))
         }
     }
 }
@@ -101,8 +111,7 @@ pub fn attributed_pattern(
         pattern: attributed_pattern,
         statement,
     };
-    let pattern = from_patterns::attributed_pattern(&below, attrs, tree)?;
-    Ok(of_kind(alloc, NodeKind::Pat(pattern))?)
+    below.pattern(from_patterns::attributed_pattern(&below, attrs, tree)?)
 }
 
 /// The statement that a tree is, among others; a lone `;` is one too.

@@ -1,1 +1,2 @@
+pub mod Boxed
 pub mod DerivedItems

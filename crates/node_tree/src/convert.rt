@@ -2,19 +2,15 @@
 
 ghost use Rattle.node_tree.specs.DerivedItems.{item_of};
 ghost use Rattle.node_tree.specs.declared.item.Item.TheVariants as items;
-ghost use Rattle.node_tree.specs.declared.node.NodeKind.TheVariants as kinds;
 ghost use Rattle.std.specs.Prelude.{◌≡◌};
 
 use crate::item::Item;
-use crate::node::{Node, NodeKind};
-use node_expressions::Expr;
+use crate::node::Node;
 use node_items::{
     Data, DataEnum, DataStruct, DataUnion, DeriveInput, ItemConst, ItemEnum, ItemExternCrate,
     ItemFn, ItemForeignMod, ItemImpl, ItemMacro, ItemMod, ItemStatic, ItemStruct, ItemTrait,
     ItemTraitAlias, ItemType, ItemUnion, ItemUse,
 };
-use node_patterns::Pat;
-use node_types::Type;
 
 impl From<ItemConst<Node>> for Item {
     ghost from_gives = { λ node made. made ≡ items.Const node };
@@ -202,32 +198,5 @@ impl From<DeriveInput<Node>> for Item {
                 fields,
             }),
         }
-    }
-}
-
-impl From<Expr<Node>> for NodeKind {
-    ghost from_gives = { λ node made. made ≡ kinds.Expr node };
-
-    /// What a node is, of an expression.
-    fn from(node: Expr<Node>) -> NodeKind {
-        NodeKind::Expr(node)
-    }
-}
-
-impl From<Pat<Node>> for NodeKind {
-    ghost from_gives = { λ node made. made ≡ kinds.Pat node };
-
-    /// What a node is, of a pattern.
-    fn from(node: Pat<Node>) -> NodeKind {
-        NodeKind::Pat(node)
-    }
-}
-
-impl From<Type<Node>> for NodeKind {
-    ghost from_gives = { λ node made. made ≡ kinds.«Type» node };
-
-    /// What a node is, of a type.
-    fn from(node: Type<Node>) -> NodeKind {
-        NodeKind::Type(node)
     }
 }

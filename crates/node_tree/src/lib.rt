@@ -13,4 +13,4 @@ pub mod node;
 
 pub use file::File;
 pub use item::Item;
-pub use node::{Node, NodeKind};
+pub use node::Node;

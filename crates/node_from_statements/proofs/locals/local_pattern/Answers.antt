@@ -22,13 +22,13 @@ pub called-requires : goal.called-requires
 called-requires g c =
     (_, _, (seq_parts typed (c.in-Some.ensures ∙ ap t.First c.pair.ensures) c.requires.ty).1)
 
-pub child-requires-in-Some-clause-shaped : goal.child-requires-in-Some-clause-shaped
-child-requires-in-Some-clause-shaped g c =
+pub node-requires-in-Some-clause-shaped : goal.node-requires-in-Some-clause-shaped
+node-requires-in-Some-clause-shaped g c =
     called_shaped the_type (ref (k.AType k.WithPlus)) _ _ (seq_parts typed (c.in-Some.ensures
     ∙ ap t.First c.pair.ensures) c.requires.ty).1 c.called.ensures
 
-pub child-requires-in-Some-clause-fewer : goal.child-requires-in-Some-clause-fewer
-child-requires-in-Some-clause-fewer g c =
+pub node-requires-in-Some-clause-fewer : goal.node-requires-in-Some-clause-fewer
+node-requires-in-Some-clause-fewer g c =
     omega (
       arith,
       ap node_count c.in-Some.ensures,
