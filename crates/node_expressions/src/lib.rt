@@ -12,6 +12,8 @@
 //! - `convert` (private): structs as the enum that holds them.
 //! - `expr`: expressions, each of one form.
 //! - `jump`: expressions that leave what runs.
+//! - `parse` (private): expressions, statements and what stands in them, read from a stream.
+//! - `parse_alone`, `parse_operands` (private): forms of expressions, read from a stream.
 //! - `placeholder` (private): an expression where none is known yet.
 //! - `statement`: statements.
 #![tactic(auto)]
@@ -25,6 +27,9 @@ mod convert;
 pub mod expr;
 pub mod jump;
 pub mod operator;
+mod parse;
+mod parse_alone;
+mod parse_operands;
 mod placeholder;
 pub mod statement;
 

@@ -5,6 +5,7 @@
 //! - `convert` (private): structs as the enums that hold them.
 //! - `param`: the parameters.
 //! - `clause`: the conditions behind `where`.
+//! - `parse` (private): all these, read from a stream.
 //! - `visibility`: who may name an item.
 #![tactic(auto)]
 
@@ -14,6 +15,7 @@ ghost use Rattle.syn_lists.specs.Lists.{separators, values};
 pub mod clause;
 mod convert;
 pub mod param;
+mod parse;
 pub mod visibility;
 
 pub use clause::{PredicateLifetime, PredicateType, WhereClause, WherePredicate};

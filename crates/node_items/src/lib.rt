@@ -21,6 +21,7 @@
 //! - `mac`: calls of macros as items.
 //! - `modifiers`: what may stand in front of an item.
 //! - `file`: files.
+//! - `parse`, `parse_members` (private): items, and what stands in them, read from a stream.
 #![tactic(auto)]
 
 pub mod alias;
@@ -38,6 +39,8 @@ pub mod mac;
 pub mod members;
 pub mod modifiers;
 pub mod module;
+mod parse;
+mod parse_members;
 mod place;
 pub mod traits;
 pub mod value;

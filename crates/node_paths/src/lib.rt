@@ -8,12 +8,14 @@
 //! - `mac`: calls of macros.
 //! - `path`: paths, their segments and arguments.
 //! - `bound`: bounds, and the lifetimes that they bind.
+//! - `parse` (private): all these, read from a stream.
 #![tactic(auto)]
 
 pub mod attribute;
 pub mod bound;
 mod convert;
 pub mod mac;
+mod parse;
 pub mod path;
 
 pub use attribute::{AttrStyle, Attribute, Meta, MetaList, MetaNameValue};

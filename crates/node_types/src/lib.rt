@@ -5,11 +5,13 @@
 //! - `convert` (private): structs as the enums that hold them.
 //! - `kinds`: each kind of type.
 //! - `function`: function pointers.
+//! - `parse` (private): types that are read from a stream.
 #![tactic(auto)]
 
 mod convert;
 pub mod function;
 pub mod kinds;
+mod parse;
 
 pub use function::{FnPtrArg, TypeFnPtr};
 pub use kinds::{
