@@ -1,7 +1,7 @@
 //! Expressions that stand without an operand before or behind them, each read as a single form.
 
 ghost use Rattle.node_expressions.specs.declared.expr.Expr.TheVariants as exprs;
-ghost use Rattle.node_read.specs.Reads.{NoneOrOther, ReadAs};
+ghost use Rattle.node_traits.specs.Reads.{NoneOrOther, ReadAs};
 
 use crate::atom::{
     ExprArray, ExprInfer, ExprLit, ExprMacro, ExprParen, ExprPath, ExprRepeat, ExprTuple,
@@ -12,12 +12,12 @@ use crate::block::{
 use crate::branch::{ExprIf, ExprMatch};
 use crate::expr::Expr;
 use crate::jump::ExprContinue;
-use node_read::{Makes, read};
+use node_traits::Reads;
 use syn_error::ParseFault;
 use syn_input::{Parse, ParseBuffer};
 
-#[tactic(auto, using(node_read::proofs::Others::other_stands))]
-impl<E: Makes<Expr<E>> + Drop> Parse for ExprArray<E> {
+#[tactic(auto, using(node_traits::proofs::Others::other_stands))]
+impl<E: Reads<Expr<E>> + Drop> Parse for ExprArray<E> {
     ghost reads = { λ tokens x. ReadAs E.kind E.view tokens (exprs.Array x) };
 
     ghost refuses = { NoneOrOther E.kind E.view exprs.Array };
@@ -25,7 +25,7 @@ impl<E: Makes<Expr<E>> + Drop> Parse for ExprArray<E> {
     /// Reads an expression, and refuses all but an array.
     fn parse(input: &mut ParseBuffer<'_>) -> Result<ExprArray<E>, ParseFault> {
         let mut ahead = input.fork();
-        match read::<Expr<E>, E>(&mut ahead)? {
+        match <E as Reads<Expr<E>>>::read(&mut ahead)? {
             Expr::Array(form) => {
                 input.advance_to(ahead);
                 Ok(form)
@@ -38,8 +38,8 @@ impl<E: Makes<Expr<E>> + Drop> Parse for ExprArray<E> {
     }
 }
 
-#[tactic(auto, using(node_read::proofs::Others::other_stands))]
-impl<E: Makes<Expr<E>> + Drop> Parse for ExprAsync<E> {
+#[tactic(auto, using(node_traits::proofs::Others::other_stands))]
+impl<E: Reads<Expr<E>> + Drop> Parse for ExprAsync<E> {
     ghost reads = { λ tokens x. ReadAs E.kind E.view tokens (exprs.Async x) };
 
     ghost refuses = { NoneOrOther E.kind E.view exprs.Async };
@@ -47,7 +47,7 @@ impl<E: Makes<Expr<E>> + Drop> Parse for ExprAsync<E> {
     /// Reads an expression, and refuses all but an async block.
     fn parse(input: &mut ParseBuffer<'_>) -> Result<ExprAsync<E>, ParseFault> {
         let mut ahead = input.fork();
-        match read::<Expr<E>, E>(&mut ahead)? {
+        match <E as Reads<Expr<E>>>::read(&mut ahead)? {
             Expr::Async(form) => {
                 input.advance_to(ahead);
                 Ok(form)
@@ -60,8 +60,8 @@ impl<E: Makes<Expr<E>> + Drop> Parse for ExprAsync<E> {
     }
 }
 
-#[tactic(auto, using(node_read::proofs::Others::other_stands))]
-impl<E: Makes<Expr<E>> + Drop> Parse for ExprBlock<E> {
+#[tactic(auto, using(node_traits::proofs::Others::other_stands))]
+impl<E: Reads<Expr<E>> + Drop> Parse for ExprBlock<E> {
     ghost reads = { λ tokens x. ReadAs E.kind E.view tokens (exprs.Block x) };
 
     ghost refuses = { NoneOrOther E.kind E.view exprs.Block };
@@ -69,7 +69,7 @@ impl<E: Makes<Expr<E>> + Drop> Parse for ExprBlock<E> {
     /// Reads an expression, and refuses all but a block.
     fn parse(input: &mut ParseBuffer<'_>) -> Result<ExprBlock<E>, ParseFault> {
         let mut ahead = input.fork();
-        match read::<Expr<E>, E>(&mut ahead)? {
+        match <E as Reads<Expr<E>>>::read(&mut ahead)? {
             Expr::Block(form) => {
                 input.advance_to(ahead);
                 Ok(form)
@@ -82,8 +82,8 @@ impl<E: Makes<Expr<E>> + Drop> Parse for ExprBlock<E> {
     }
 }
 
-#[tactic(auto, using(node_read::proofs::Others::other_stands))]
-impl<E: Makes<Expr<E>> + Drop> Parse for ExprConst<E> {
+#[tactic(auto, using(node_traits::proofs::Others::other_stands))]
+impl<E: Reads<Expr<E>> + Drop> Parse for ExprConst<E> {
     ghost reads = { λ tokens x. ReadAs E.kind E.view tokens (exprs.Const x) };
 
     ghost refuses = { NoneOrOther E.kind E.view exprs.Const };
@@ -91,7 +91,7 @@ impl<E: Makes<Expr<E>> + Drop> Parse for ExprConst<E> {
     /// Reads an expression, and refuses all but a const block.
     fn parse(input: &mut ParseBuffer<'_>) -> Result<ExprConst<E>, ParseFault> {
         let mut ahead = input.fork();
-        match read::<Expr<E>, E>(&mut ahead)? {
+        match <E as Reads<Expr<E>>>::read(&mut ahead)? {
             Expr::Const(form) => {
                 input.advance_to(ahead);
                 Ok(form)
@@ -104,8 +104,8 @@ impl<E: Makes<Expr<E>> + Drop> Parse for ExprConst<E> {
     }
 }
 
-#[tactic(auto, using(node_read::proofs::Others::other_stands))]
-impl<E: Makes<Expr<E>> + Drop> Parse for ExprContinue<E> {
+#[tactic(auto, using(node_traits::proofs::Others::other_stands))]
+impl<E: Reads<Expr<E>> + Drop> Parse for ExprContinue<E> {
     ghost reads = { λ tokens x. ReadAs E.kind E.view tokens (exprs.Continue x) };
 
     ghost refuses = { NoneOrOther E.kind E.view exprs.Continue };
@@ -113,7 +113,7 @@ impl<E: Makes<Expr<E>> + Drop> Parse for ExprContinue<E> {
     /// Reads an expression, and refuses all but `continue`.
     fn parse(input: &mut ParseBuffer<'_>) -> Result<ExprContinue<E>, ParseFault> {
         let mut ahead = input.fork();
-        match read::<Expr<E>, E>(&mut ahead)? {
+        match <E as Reads<Expr<E>>>::read(&mut ahead)? {
             Expr::Continue(form) => {
                 input.advance_to(ahead);
                 Ok(form)
@@ -126,8 +126,8 @@ impl<E: Makes<Expr<E>> + Drop> Parse for ExprContinue<E> {
     }
 }
 
-#[tactic(auto, using(node_read::proofs::Others::other_stands))]
-impl<E: Makes<Expr<E>> + Drop> Parse for ExprForLoop<E> {
+#[tactic(auto, using(node_traits::proofs::Others::other_stands))]
+impl<E: Reads<Expr<E>> + Drop> Parse for ExprForLoop<E> {
     ghost reads = { λ tokens x. ReadAs E.kind E.view tokens (exprs.ForLoop x) };
 
     ghost refuses = { NoneOrOther E.kind E.view exprs.ForLoop };
@@ -135,7 +135,7 @@ impl<E: Makes<Expr<E>> + Drop> Parse for ExprForLoop<E> {
     /// Reads an expression, and refuses all but a `for` loop.
     fn parse(input: &mut ParseBuffer<'_>) -> Result<ExprForLoop<E>, ParseFault> {
         let mut ahead = input.fork();
-        match read::<Expr<E>, E>(&mut ahead)? {
+        match <E as Reads<Expr<E>>>::read(&mut ahead)? {
             Expr::ForLoop(form) => {
                 input.advance_to(ahead);
                 Ok(form)
@@ -148,8 +148,8 @@ impl<E: Makes<Expr<E>> + Drop> Parse for ExprForLoop<E> {
     }
 }
 
-#[tactic(auto, using(node_read::proofs::Others::other_stands))]
-impl<E: Makes<Expr<E>> + Drop> Parse for ExprIf<E> {
+#[tactic(auto, using(node_traits::proofs::Others::other_stands))]
+impl<E: Reads<Expr<E>> + Drop> Parse for ExprIf<E> {
     ghost reads = { λ tokens x. ReadAs E.kind E.view tokens (exprs.If x) };
 
     ghost refuses = { NoneOrOther E.kind E.view exprs.If };
@@ -157,7 +157,7 @@ impl<E: Makes<Expr<E>> + Drop> Parse for ExprIf<E> {
     /// Reads an expression, and refuses all but `if`.
     fn parse(input: &mut ParseBuffer<'_>) -> Result<ExprIf<E>, ParseFault> {
         let mut ahead = input.fork();
-        match read::<Expr<E>, E>(&mut ahead)? {
+        match <E as Reads<Expr<E>>>::read(&mut ahead)? {
             Expr::If(form) => {
                 input.advance_to(ahead);
                 Ok(form)
@@ -170,8 +170,8 @@ impl<E: Makes<Expr<E>> + Drop> Parse for ExprIf<E> {
     }
 }
 
-#[tactic(auto, using(node_read::proofs::Others::other_stands))]
-impl<E: Makes<Expr<E>> + Drop> Parse for ExprInfer<E> {
+#[tactic(auto, using(node_traits::proofs::Others::other_stands))]
+impl<E: Reads<Expr<E>> + Drop> Parse for ExprInfer<E> {
     ghost reads = { λ tokens x. ReadAs E.kind E.view tokens (exprs.Infer x) };
 
     ghost refuses = { NoneOrOther E.kind E.view exprs.Infer };
@@ -179,7 +179,7 @@ impl<E: Makes<Expr<E>> + Drop> Parse for ExprInfer<E> {
     /// Reads an expression, and refuses all but `_`.
     fn parse(input: &mut ParseBuffer<'_>) -> Result<ExprInfer<E>, ParseFault> {
         let mut ahead = input.fork();
-        match read::<Expr<E>, E>(&mut ahead)? {
+        match <E as Reads<Expr<E>>>::read(&mut ahead)? {
             Expr::Infer(form) => {
                 input.advance_to(ahead);
                 Ok(form)
@@ -192,8 +192,8 @@ impl<E: Makes<Expr<E>> + Drop> Parse for ExprInfer<E> {
     }
 }
 
-#[tactic(auto, using(node_read::proofs::Others::other_stands))]
-impl<E: Makes<Expr<E>> + Drop> Parse for ExprLit<E> {
+#[tactic(auto, using(node_traits::proofs::Others::other_stands))]
+impl<E: Reads<Expr<E>> + Drop> Parse for ExprLit<E> {
     ghost reads = { λ tokens x. ReadAs E.kind E.view tokens (exprs.Lit x) };
 
     ghost refuses = { NoneOrOther E.kind E.view exprs.Lit };
@@ -201,7 +201,7 @@ impl<E: Makes<Expr<E>> + Drop> Parse for ExprLit<E> {
     /// Reads an expression, and refuses all but a literal.
     fn parse(input: &mut ParseBuffer<'_>) -> Result<ExprLit<E>, ParseFault> {
         let mut ahead = input.fork();
-        match read::<Expr<E>, E>(&mut ahead)? {
+        match <E as Reads<Expr<E>>>::read(&mut ahead)? {
             Expr::Lit(form) => {
                 input.advance_to(ahead);
                 Ok(form)
@@ -214,8 +214,8 @@ impl<E: Makes<Expr<E>> + Drop> Parse for ExprLit<E> {
     }
 }
 
-#[tactic(auto, using(node_read::proofs::Others::other_stands))]
-impl<E: Makes<Expr<E>> + Drop> Parse for ExprLoop<E> {
+#[tactic(auto, using(node_traits::proofs::Others::other_stands))]
+impl<E: Reads<Expr<E>> + Drop> Parse for ExprLoop<E> {
     ghost reads = { λ tokens x. ReadAs E.kind E.view tokens (exprs.Loop x) };
 
     ghost refuses = { NoneOrOther E.kind E.view exprs.Loop };
@@ -223,7 +223,7 @@ impl<E: Makes<Expr<E>> + Drop> Parse for ExprLoop<E> {
     /// Reads an expression, and refuses all but `loop`.
     fn parse(input: &mut ParseBuffer<'_>) -> Result<ExprLoop<E>, ParseFault> {
         let mut ahead = input.fork();
-        match read::<Expr<E>, E>(&mut ahead)? {
+        match <E as Reads<Expr<E>>>::read(&mut ahead)? {
             Expr::Loop(form) => {
                 input.advance_to(ahead);
                 Ok(form)
@@ -236,8 +236,8 @@ impl<E: Makes<Expr<E>> + Drop> Parse for ExprLoop<E> {
     }
 }
 
-#[tactic(auto, using(node_read::proofs::Others::other_stands))]
-impl<E: Makes<Expr<E>> + Drop> Parse for ExprMacro<E> {
+#[tactic(auto, using(node_traits::proofs::Others::other_stands))]
+impl<E: Reads<Expr<E>> + Drop> Parse for ExprMacro<E> {
     ghost reads = { λ tokens x. ReadAs E.kind E.view tokens (exprs.Macro x) };
 
     ghost refuses = { NoneOrOther E.kind E.view exprs.Macro };
@@ -245,7 +245,7 @@ impl<E: Makes<Expr<E>> + Drop> Parse for ExprMacro<E> {
     /// Reads an expression, and refuses all but a call of a macro.
     fn parse(input: &mut ParseBuffer<'_>) -> Result<ExprMacro<E>, ParseFault> {
         let mut ahead = input.fork();
-        match read::<Expr<E>, E>(&mut ahead)? {
+        match <E as Reads<Expr<E>>>::read(&mut ahead)? {
             Expr::Macro(form) => {
                 input.advance_to(ahead);
                 Ok(form)
@@ -258,8 +258,8 @@ impl<E: Makes<Expr<E>> + Drop> Parse for ExprMacro<E> {
     }
 }
 
-#[tactic(auto, using(node_read::proofs::Others::other_stands))]
-impl<E: Makes<Expr<E>> + Drop> Parse for ExprMatch<E> {
+#[tactic(auto, using(node_traits::proofs::Others::other_stands))]
+impl<E: Reads<Expr<E>> + Drop> Parse for ExprMatch<E> {
     ghost reads = { λ tokens x. ReadAs E.kind E.view tokens (exprs.Match x) };
 
     ghost refuses = { NoneOrOther E.kind E.view exprs.Match };
@@ -267,7 +267,7 @@ impl<E: Makes<Expr<E>> + Drop> Parse for ExprMatch<E> {
     /// Reads an expression, and refuses all but `match`.
     fn parse(input: &mut ParseBuffer<'_>) -> Result<ExprMatch<E>, ParseFault> {
         let mut ahead = input.fork();
-        match read::<Expr<E>, E>(&mut ahead)? {
+        match <E as Reads<Expr<E>>>::read(&mut ahead)? {
             Expr::Match(form) => {
                 input.advance_to(ahead);
                 Ok(form)
@@ -280,8 +280,8 @@ impl<E: Makes<Expr<E>> + Drop> Parse for ExprMatch<E> {
     }
 }
 
-#[tactic(auto, using(node_read::proofs::Others::other_stands))]
-impl<E: Makes<Expr<E>> + Drop> Parse for ExprParen<E> {
+#[tactic(auto, using(node_traits::proofs::Others::other_stands))]
+impl<E: Reads<Expr<E>> + Drop> Parse for ExprParen<E> {
     ghost reads = { λ tokens x. ReadAs E.kind E.view tokens (exprs.Paren x) };
 
     ghost refuses = { NoneOrOther E.kind E.view exprs.Paren };
@@ -289,7 +289,7 @@ impl<E: Makes<Expr<E>> + Drop> Parse for ExprParen<E> {
     /// Reads an expression, and refuses all but one in parentheses.
     fn parse(input: &mut ParseBuffer<'_>) -> Result<ExprParen<E>, ParseFault> {
         let mut ahead = input.fork();
-        match read::<Expr<E>, E>(&mut ahead)? {
+        match <E as Reads<Expr<E>>>::read(&mut ahead)? {
             Expr::Paren(form) => {
                 input.advance_to(ahead);
                 Ok(form)
@@ -302,8 +302,8 @@ impl<E: Makes<Expr<E>> + Drop> Parse for ExprParen<E> {
     }
 }
 
-#[tactic(auto, using(node_read::proofs::Others::other_stands))]
-impl<E: Makes<Expr<E>> + Drop> Parse for ExprPath<E> {
+#[tactic(auto, using(node_traits::proofs::Others::other_stands))]
+impl<E: Reads<Expr<E>> + Drop> Parse for ExprPath<E> {
     ghost reads = { λ tokens x. ReadAs E.kind E.view tokens (exprs.Path x) };
 
     ghost refuses = { NoneOrOther E.kind E.view exprs.Path };
@@ -311,7 +311,7 @@ impl<E: Makes<Expr<E>> + Drop> Parse for ExprPath<E> {
     /// Reads an expression, and refuses all but a path.
     fn parse(input: &mut ParseBuffer<'_>) -> Result<ExprPath<E>, ParseFault> {
         let mut ahead = input.fork();
-        match read::<Expr<E>, E>(&mut ahead)? {
+        match <E as Reads<Expr<E>>>::read(&mut ahead)? {
             Expr::Path(form) => {
                 input.advance_to(ahead);
                 Ok(form)
@@ -324,8 +324,8 @@ impl<E: Makes<Expr<E>> + Drop> Parse for ExprPath<E> {
     }
 }
 
-#[tactic(auto, using(node_read::proofs::Others::other_stands))]
-impl<E: Makes<Expr<E>> + Drop> Parse for ExprRepeat<E> {
+#[tactic(auto, using(node_traits::proofs::Others::other_stands))]
+impl<E: Reads<Expr<E>> + Drop> Parse for ExprRepeat<E> {
     ghost reads = { λ tokens x. ReadAs E.kind E.view tokens (exprs.Repeat x) };
 
     ghost refuses = { NoneOrOther E.kind E.view exprs.Repeat };
@@ -333,7 +333,7 @@ impl<E: Makes<Expr<E>> + Drop> Parse for ExprRepeat<E> {
     /// Reads an expression, and refuses all but an array of one value.
     fn parse(input: &mut ParseBuffer<'_>) -> Result<ExprRepeat<E>, ParseFault> {
         let mut ahead = input.fork();
-        match read::<Expr<E>, E>(&mut ahead)? {
+        match <E as Reads<Expr<E>>>::read(&mut ahead)? {
             Expr::Repeat(form) => {
                 input.advance_to(ahead);
                 Ok(form)
@@ -346,8 +346,8 @@ impl<E: Makes<Expr<E>> + Drop> Parse for ExprRepeat<E> {
     }
 }
 
-#[tactic(auto, using(node_read::proofs::Others::other_stands))]
-impl<E: Makes<Expr<E>> + Drop> Parse for ExprTryBlock<E> {
+#[tactic(auto, using(node_traits::proofs::Others::other_stands))]
+impl<E: Reads<Expr<E>> + Drop> Parse for ExprTryBlock<E> {
     ghost reads = { λ tokens x. ReadAs E.kind E.view tokens (exprs.TryBlock x) };
 
     ghost refuses = { NoneOrOther E.kind E.view exprs.TryBlock };
@@ -355,7 +355,7 @@ impl<E: Makes<Expr<E>> + Drop> Parse for ExprTryBlock<E> {
     /// Reads an expression, and refuses all but a try block.
     fn parse(input: &mut ParseBuffer<'_>) -> Result<ExprTryBlock<E>, ParseFault> {
         let mut ahead = input.fork();
-        match read::<Expr<E>, E>(&mut ahead)? {
+        match <E as Reads<Expr<E>>>::read(&mut ahead)? {
             Expr::TryBlock(form) => {
                 input.advance_to(ahead);
                 Ok(form)
@@ -368,8 +368,8 @@ impl<E: Makes<Expr<E>> + Drop> Parse for ExprTryBlock<E> {
     }
 }
 
-#[tactic(auto, using(node_read::proofs::Others::other_stands))]
-impl<E: Makes<Expr<E>> + Drop> Parse for ExprTuple<E> {
+#[tactic(auto, using(node_traits::proofs::Others::other_stands))]
+impl<E: Reads<Expr<E>> + Drop> Parse for ExprTuple<E> {
     ghost reads = { λ tokens x. ReadAs E.kind E.view tokens (exprs.Tuple x) };
 
     ghost refuses = { NoneOrOther E.kind E.view exprs.Tuple };
@@ -377,7 +377,7 @@ impl<E: Makes<Expr<E>> + Drop> Parse for ExprTuple<E> {
     /// Reads an expression, and refuses all but a tuple.
     fn parse(input: &mut ParseBuffer<'_>) -> Result<ExprTuple<E>, ParseFault> {
         let mut ahead = input.fork();
-        match read::<Expr<E>, E>(&mut ahead)? {
+        match <E as Reads<Expr<E>>>::read(&mut ahead)? {
             Expr::Tuple(form) => {
                 input.advance_to(ahead);
                 Ok(form)
@@ -390,8 +390,8 @@ impl<E: Makes<Expr<E>> + Drop> Parse for ExprTuple<E> {
     }
 }
 
-#[tactic(auto, using(node_read::proofs::Others::other_stands))]
-impl<E: Makes<Expr<E>> + Drop> Parse for ExprUnsafe<E> {
+#[tactic(auto, using(node_traits::proofs::Others::other_stands))]
+impl<E: Reads<Expr<E>> + Drop> Parse for ExprUnsafe<E> {
     ghost reads = { λ tokens x. ReadAs E.kind E.view tokens (exprs.Unsafe x) };
 
     ghost refuses = { NoneOrOther E.kind E.view exprs.Unsafe };
@@ -399,7 +399,7 @@ impl<E: Makes<Expr<E>> + Drop> Parse for ExprUnsafe<E> {
     /// Reads an expression, and refuses all but an unsafe block.
     fn parse(input: &mut ParseBuffer<'_>) -> Result<ExprUnsafe<E>, ParseFault> {
         let mut ahead = input.fork();
-        match read::<Expr<E>, E>(&mut ahead)? {
+        match <E as Reads<Expr<E>>>::read(&mut ahead)? {
             Expr::Unsafe(form) => {
                 input.advance_to(ahead);
                 Ok(form)
@@ -412,8 +412,8 @@ impl<E: Makes<Expr<E>> + Drop> Parse for ExprUnsafe<E> {
     }
 }
 
-#[tactic(auto, using(node_read::proofs::Others::other_stands))]
-impl<E: Makes<Expr<E>> + Drop> Parse for ExprWhile<E> {
+#[tactic(auto, using(node_traits::proofs::Others::other_stands))]
+impl<E: Reads<Expr<E>> + Drop> Parse for ExprWhile<E> {
     ghost reads = { λ tokens x. ReadAs E.kind E.view tokens (exprs.While x) };
 
     ghost refuses = { NoneOrOther E.kind E.view exprs.While };
@@ -421,7 +421,7 @@ impl<E: Makes<Expr<E>> + Drop> Parse for ExprWhile<E> {
     /// Reads an expression, and refuses all but a `while` loop.
     fn parse(input: &mut ParseBuffer<'_>) -> Result<ExprWhile<E>, ParseFault> {
         let mut ahead = input.fork();
-        match read::<Expr<E>, E>(&mut ahead)? {
+        match <E as Reads<Expr<E>>>::read(&mut ahead)? {
             Expr::While(form) => {
                 input.advance_to(ahead);
                 Ok(form)

@@ -1,7 +1,7 @@
 //! Expressions with operands, each read as a single form.
 
 ghost use Rattle.node_expressions.specs.declared.expr.Expr.TheVariants as exprs;
-ghost use Rattle.node_read.specs.Reads.{NoneOrOther, ReadAs};
+ghost use Rattle.node_traits.specs.Reads.{NoneOrOther, ReadAs};
 
 use crate::atom::ExprStruct;
 use crate::branch::ExprLet;
@@ -12,12 +12,12 @@ use crate::jump::{ExprBreak, ExprReturn, ExprYield};
 use crate::operator::{
     ExprAssign, ExprBinary, ExprCast, ExprRange, ExprRawAddr, ExprReference, ExprUnary,
 };
-use node_read::{Makes, read};
+use node_traits::Reads;
 use syn_error::ParseFault;
 use syn_input::{Parse, ParseBuffer};
 
-#[tactic(auto, using(node_read::proofs::Others::other_stands))]
-impl<E: Makes<Expr<E>> + Drop> Parse for ExprAssign<E> {
+#[tactic(auto, using(node_traits::proofs::Others::other_stands))]
+impl<E: Reads<Expr<E>> + Drop> Parse for ExprAssign<E> {
     ghost reads = { λ tokens x. ReadAs E.kind E.view tokens (exprs.Assign x) };
 
     ghost refuses = { NoneOrOther E.kind E.view exprs.Assign };
@@ -25,7 +25,7 @@ impl<E: Makes<Expr<E>> + Drop> Parse for ExprAssign<E> {
     /// Reads an expression, and refuses all but an assignment.
     fn parse(input: &mut ParseBuffer<'_>) -> Result<ExprAssign<E>, ParseFault> {
         let mut ahead = input.fork();
-        match read::<Expr<E>, E>(&mut ahead)? {
+        match <E as Reads<Expr<E>>>::read(&mut ahead)? {
             Expr::Assign(form) => {
                 input.advance_to(ahead);
                 Ok(form)
@@ -38,8 +38,8 @@ impl<E: Makes<Expr<E>> + Drop> Parse for ExprAssign<E> {
     }
 }
 
-#[tactic(auto, using(node_read::proofs::Others::other_stands))]
-impl<E: Makes<Expr<E>> + Drop> Parse for ExprAwait<E> {
+#[tactic(auto, using(node_traits::proofs::Others::other_stands))]
+impl<E: Reads<Expr<E>> + Drop> Parse for ExprAwait<E> {
     ghost reads = { λ tokens x. ReadAs E.kind E.view tokens (exprs.Await x) };
 
     ghost refuses = { NoneOrOther E.kind E.view exprs.Await };
@@ -47,7 +47,7 @@ impl<E: Makes<Expr<E>> + Drop> Parse for ExprAwait<E> {
     /// Reads an expression, and refuses all but `.await`.
     fn parse(input: &mut ParseBuffer<'_>) -> Result<ExprAwait<E>, ParseFault> {
         let mut ahead = input.fork();
-        match read::<Expr<E>, E>(&mut ahead)? {
+        match <E as Reads<Expr<E>>>::read(&mut ahead)? {
             Expr::Await(form) => {
                 input.advance_to(ahead);
                 Ok(form)
@@ -60,8 +60,8 @@ impl<E: Makes<Expr<E>> + Drop> Parse for ExprAwait<E> {
     }
 }
 
-#[tactic(auto, using(node_read::proofs::Others::other_stands))]
-impl<E: Makes<Expr<E>> + Drop> Parse for ExprBinary<E> {
+#[tactic(auto, using(node_traits::proofs::Others::other_stands))]
+impl<E: Reads<Expr<E>> + Drop> Parse for ExprBinary<E> {
     ghost reads = { λ tokens x. ReadAs E.kind E.view tokens (exprs.Binary x) };
 
     ghost refuses = { NoneOrOther E.kind E.view exprs.Binary };
@@ -69,7 +69,7 @@ impl<E: Makes<Expr<E>> + Drop> Parse for ExprBinary<E> {
     /// Reads an expression, and refuses all but an operator between two operands.
     fn parse(input: &mut ParseBuffer<'_>) -> Result<ExprBinary<E>, ParseFault> {
         let mut ahead = input.fork();
-        match read::<Expr<E>, E>(&mut ahead)? {
+        match <E as Reads<Expr<E>>>::read(&mut ahead)? {
             Expr::Binary(form) => {
                 input.advance_to(ahead);
                 Ok(form)
@@ -82,8 +82,8 @@ impl<E: Makes<Expr<E>> + Drop> Parse for ExprBinary<E> {
     }
 }
 
-#[tactic(auto, using(node_read::proofs::Others::other_stands))]
-impl<E: Makes<Expr<E>> + Drop> Parse for ExprBreak<E> {
+#[tactic(auto, using(node_traits::proofs::Others::other_stands))]
+impl<E: Reads<Expr<E>> + Drop> Parse for ExprBreak<E> {
     ghost reads = { λ tokens x. ReadAs E.kind E.view tokens (exprs.Break x) };
 
     ghost refuses = { NoneOrOther E.kind E.view exprs.Break };
@@ -91,7 +91,7 @@ impl<E: Makes<Expr<E>> + Drop> Parse for ExprBreak<E> {
     /// Reads an expression, and refuses all but `break`.
     fn parse(input: &mut ParseBuffer<'_>) -> Result<ExprBreak<E>, ParseFault> {
         let mut ahead = input.fork();
-        match read::<Expr<E>, E>(&mut ahead)? {
+        match <E as Reads<Expr<E>>>::read(&mut ahead)? {
             Expr::Break(form) => {
                 input.advance_to(ahead);
                 Ok(form)
@@ -104,8 +104,8 @@ impl<E: Makes<Expr<E>> + Drop> Parse for ExprBreak<E> {
     }
 }
 
-#[tactic(auto, using(node_read::proofs::Others::other_stands))]
-impl<E: Makes<Expr<E>> + Drop> Parse for ExprCall<E> {
+#[tactic(auto, using(node_traits::proofs::Others::other_stands))]
+impl<E: Reads<Expr<E>> + Drop> Parse for ExprCall<E> {
     ghost reads = { λ tokens x. ReadAs E.kind E.view tokens (exprs.Call x) };
 
     ghost refuses = { NoneOrOther E.kind E.view exprs.Call };
@@ -113,7 +113,7 @@ impl<E: Makes<Expr<E>> + Drop> Parse for ExprCall<E> {
     /// Reads an expression, and refuses all but a call of a function.
     fn parse(input: &mut ParseBuffer<'_>) -> Result<ExprCall<E>, ParseFault> {
         let mut ahead = input.fork();
-        match read::<Expr<E>, E>(&mut ahead)? {
+        match <E as Reads<Expr<E>>>::read(&mut ahead)? {
             Expr::Call(form) => {
                 input.advance_to(ahead);
                 Ok(form)
@@ -126,8 +126,8 @@ impl<E: Makes<Expr<E>> + Drop> Parse for ExprCall<E> {
     }
 }
 
-#[tactic(auto, using(node_read::proofs::Others::other_stands))]
-impl<E: Makes<Expr<E>> + Drop> Parse for ExprCast<E> {
+#[tactic(auto, using(node_traits::proofs::Others::other_stands))]
+impl<E: Reads<Expr<E>> + Drop> Parse for ExprCast<E> {
     ghost reads = { λ tokens x. ReadAs E.kind E.view tokens (exprs.Cast x) };
 
     ghost refuses = { NoneOrOther E.kind E.view exprs.Cast };
@@ -135,7 +135,7 @@ impl<E: Makes<Expr<E>> + Drop> Parse for ExprCast<E> {
     /// Reads an expression, and refuses all but a cast.
     fn parse(input: &mut ParseBuffer<'_>) -> Result<ExprCast<E>, ParseFault> {
         let mut ahead = input.fork();
-        match read::<Expr<E>, E>(&mut ahead)? {
+        match <E as Reads<Expr<E>>>::read(&mut ahead)? {
             Expr::Cast(form) => {
                 input.advance_to(ahead);
                 Ok(form)
@@ -148,8 +148,8 @@ impl<E: Makes<Expr<E>> + Drop> Parse for ExprCast<E> {
     }
 }
 
-#[tactic(auto, using(node_read::proofs::Others::other_stands))]
-impl<E: Makes<Expr<E>> + Drop> Parse for ExprClosure<E> {
+#[tactic(auto, using(node_traits::proofs::Others::other_stands))]
+impl<E: Reads<Expr<E>> + Drop> Parse for ExprClosure<E> {
     ghost reads = { λ tokens x. ReadAs E.kind E.view tokens (exprs.Closure x) };
 
     ghost refuses = { NoneOrOther E.kind E.view exprs.Closure };
@@ -157,7 +157,7 @@ impl<E: Makes<Expr<E>> + Drop> Parse for ExprClosure<E> {
     /// Reads an expression, and refuses all but a closure.
     fn parse(input: &mut ParseBuffer<'_>) -> Result<ExprClosure<E>, ParseFault> {
         let mut ahead = input.fork();
-        match read::<Expr<E>, E>(&mut ahead)? {
+        match <E as Reads<Expr<E>>>::read(&mut ahead)? {
             Expr::Closure(form) => {
                 input.advance_to(ahead);
                 Ok(form)
@@ -170,8 +170,8 @@ impl<E: Makes<Expr<E>> + Drop> Parse for ExprClosure<E> {
     }
 }
 
-#[tactic(auto, using(node_read::proofs::Others::other_stands))]
-impl<E: Makes<Expr<E>> + Drop> Parse for ExprField<E> {
+#[tactic(auto, using(node_traits::proofs::Others::other_stands))]
+impl<E: Reads<Expr<E>> + Drop> Parse for ExprField<E> {
     ghost reads = { λ tokens x. ReadAs E.kind E.view tokens (exprs.Field x) };
 
     ghost refuses = { NoneOrOther E.kind E.view exprs.Field };
@@ -179,7 +179,7 @@ impl<E: Makes<Expr<E>> + Drop> Parse for ExprField<E> {
     /// Reads an expression, and refuses all but a field.
     fn parse(input: &mut ParseBuffer<'_>) -> Result<ExprField<E>, ParseFault> {
         let mut ahead = input.fork();
-        match read::<Expr<E>, E>(&mut ahead)? {
+        match <E as Reads<Expr<E>>>::read(&mut ahead)? {
             Expr::Field(form) => {
                 input.advance_to(ahead);
                 Ok(form)
@@ -192,8 +192,8 @@ impl<E: Makes<Expr<E>> + Drop> Parse for ExprField<E> {
     }
 }
 
-#[tactic(auto, using(node_read::proofs::Others::other_stands))]
-impl<E: Makes<Expr<E>> + Drop> Parse for ExprIndex<E> {
+#[tactic(auto, using(node_traits::proofs::Others::other_stands))]
+impl<E: Reads<Expr<E>> + Drop> Parse for ExprIndex<E> {
     ghost reads = { λ tokens x. ReadAs E.kind E.view tokens (exprs.Index x) };
 
     ghost refuses = { NoneOrOther E.kind E.view exprs.Index };
@@ -201,7 +201,7 @@ impl<E: Makes<Expr<E>> + Drop> Parse for ExprIndex<E> {
     /// Reads an expression, and refuses all but an index in brackets.
     fn parse(input: &mut ParseBuffer<'_>) -> Result<ExprIndex<E>, ParseFault> {
         let mut ahead = input.fork();
-        match read::<Expr<E>, E>(&mut ahead)? {
+        match <E as Reads<Expr<E>>>::read(&mut ahead)? {
             Expr::Index(form) => {
                 input.advance_to(ahead);
                 Ok(form)
@@ -214,8 +214,8 @@ impl<E: Makes<Expr<E>> + Drop> Parse for ExprIndex<E> {
     }
 }
 
-#[tactic(auto, using(node_read::proofs::Others::other_stands))]
-impl<E: Makes<Expr<E>> + Drop> Parse for ExprLet<E> {
+#[tactic(auto, using(node_traits::proofs::Others::other_stands))]
+impl<E: Reads<Expr<E>> + Drop> Parse for ExprLet<E> {
     ghost reads = { λ tokens x. ReadAs E.kind E.view tokens (exprs.Let x) };
 
     ghost refuses = { NoneOrOther E.kind E.view exprs.Let };
@@ -223,7 +223,7 @@ impl<E: Makes<Expr<E>> + Drop> Parse for ExprLet<E> {
     /// Reads an expression, and refuses all but `let`.
     fn parse(input: &mut ParseBuffer<'_>) -> Result<ExprLet<E>, ParseFault> {
         let mut ahead = input.fork();
-        match read::<Expr<E>, E>(&mut ahead)? {
+        match <E as Reads<Expr<E>>>::read(&mut ahead)? {
             Expr::Let(form) => {
                 input.advance_to(ahead);
                 Ok(form)
@@ -236,8 +236,8 @@ impl<E: Makes<Expr<E>> + Drop> Parse for ExprLet<E> {
     }
 }
 
-#[tactic(auto, using(node_read::proofs::Others::other_stands))]
-impl<E: Makes<Expr<E>> + Drop> Parse for ExprMethodCall<E> {
+#[tactic(auto, using(node_traits::proofs::Others::other_stands))]
+impl<E: Reads<Expr<E>> + Drop> Parse for ExprMethodCall<E> {
     ghost reads = { λ tokens x. ReadAs E.kind E.view tokens (exprs.MethodCall x) };
 
     ghost refuses = { NoneOrOther E.kind E.view exprs.MethodCall };
@@ -245,7 +245,7 @@ impl<E: Makes<Expr<E>> + Drop> Parse for ExprMethodCall<E> {
     /// Reads an expression, and refuses all but a call of a method.
     fn parse(input: &mut ParseBuffer<'_>) -> Result<ExprMethodCall<E>, ParseFault> {
         let mut ahead = input.fork();
-        match read::<Expr<E>, E>(&mut ahead)? {
+        match <E as Reads<Expr<E>>>::read(&mut ahead)? {
             Expr::MethodCall(form) => {
                 input.advance_to(ahead);
                 Ok(form)
@@ -258,8 +258,8 @@ impl<E: Makes<Expr<E>> + Drop> Parse for ExprMethodCall<E> {
     }
 }
 
-#[tactic(auto, using(node_read::proofs::Others::other_stands))]
-impl<E: Makes<Expr<E>> + Drop> Parse for ExprRange<E> {
+#[tactic(auto, using(node_traits::proofs::Others::other_stands))]
+impl<E: Reads<Expr<E>> + Drop> Parse for ExprRange<E> {
     ghost reads = { λ tokens x. ReadAs E.kind E.view tokens (exprs.Range x) };
 
     ghost refuses = { NoneOrOther E.kind E.view exprs.Range };
@@ -267,7 +267,7 @@ impl<E: Makes<Expr<E>> + Drop> Parse for ExprRange<E> {
     /// Reads an expression, and refuses all but a range.
     fn parse(input: &mut ParseBuffer<'_>) -> Result<ExprRange<E>, ParseFault> {
         let mut ahead = input.fork();
-        match read::<Expr<E>, E>(&mut ahead)? {
+        match <E as Reads<Expr<E>>>::read(&mut ahead)? {
             Expr::Range(form) => {
                 input.advance_to(ahead);
                 Ok(form)
@@ -280,8 +280,8 @@ impl<E: Makes<Expr<E>> + Drop> Parse for ExprRange<E> {
     }
 }
 
-#[tactic(auto, using(node_read::proofs::Others::other_stands))]
-impl<E: Makes<Expr<E>> + Drop> Parse for ExprRawAddr<E> {
+#[tactic(auto, using(node_traits::proofs::Others::other_stands))]
+impl<E: Reads<Expr<E>> + Drop> Parse for ExprRawAddr<E> {
     ghost reads = { λ tokens x. ReadAs E.kind E.view tokens (exprs.RawAddr x) };
 
     ghost refuses = { NoneOrOther E.kind E.view exprs.RawAddr };
@@ -289,7 +289,7 @@ impl<E: Makes<Expr<E>> + Drop> Parse for ExprRawAddr<E> {
     /// Reads an expression, and refuses all but a raw address.
     fn parse(input: &mut ParseBuffer<'_>) -> Result<ExprRawAddr<E>, ParseFault> {
         let mut ahead = input.fork();
-        match read::<Expr<E>, E>(&mut ahead)? {
+        match <E as Reads<Expr<E>>>::read(&mut ahead)? {
             Expr::RawAddr(form) => {
                 input.advance_to(ahead);
                 Ok(form)
@@ -302,8 +302,8 @@ impl<E: Makes<Expr<E>> + Drop> Parse for ExprRawAddr<E> {
     }
 }
 
-#[tactic(auto, using(node_read::proofs::Others::other_stands))]
-impl<E: Makes<Expr<E>> + Drop> Parse for ExprReference<E> {
+#[tactic(auto, using(node_traits::proofs::Others::other_stands))]
+impl<E: Reads<Expr<E>> + Drop> Parse for ExprReference<E> {
     ghost reads = { λ tokens x. ReadAs E.kind E.view tokens (exprs.Reference x) };
 
     ghost refuses = { NoneOrOther E.kind E.view exprs.Reference };
@@ -311,7 +311,7 @@ impl<E: Makes<Expr<E>> + Drop> Parse for ExprReference<E> {
     /// Reads an expression, and refuses all but a reference.
     fn parse(input: &mut ParseBuffer<'_>) -> Result<ExprReference<E>, ParseFault> {
         let mut ahead = input.fork();
-        match read::<Expr<E>, E>(&mut ahead)? {
+        match <E as Reads<Expr<E>>>::read(&mut ahead)? {
             Expr::Reference(form) => {
                 input.advance_to(ahead);
                 Ok(form)
@@ -324,8 +324,8 @@ impl<E: Makes<Expr<E>> + Drop> Parse for ExprReference<E> {
     }
 }
 
-#[tactic(auto, using(node_read::proofs::Others::other_stands))]
-impl<E: Makes<Expr<E>> + Drop> Parse for ExprReturn<E> {
+#[tactic(auto, using(node_traits::proofs::Others::other_stands))]
+impl<E: Reads<Expr<E>> + Drop> Parse for ExprReturn<E> {
     ghost reads = { λ tokens x. ReadAs E.kind E.view tokens (exprs.Return x) };
 
     ghost refuses = { NoneOrOther E.kind E.view exprs.Return };
@@ -333,7 +333,7 @@ impl<E: Makes<Expr<E>> + Drop> Parse for ExprReturn<E> {
     /// Reads an expression, and refuses all but `return`.
     fn parse(input: &mut ParseBuffer<'_>) -> Result<ExprReturn<E>, ParseFault> {
         let mut ahead = input.fork();
-        match read::<Expr<E>, E>(&mut ahead)? {
+        match <E as Reads<Expr<E>>>::read(&mut ahead)? {
             Expr::Return(form) => {
                 input.advance_to(ahead);
                 Ok(form)
@@ -346,8 +346,8 @@ impl<E: Makes<Expr<E>> + Drop> Parse for ExprReturn<E> {
     }
 }
 
-#[tactic(auto, using(node_read::proofs::Others::other_stands))]
-impl<E: Makes<Expr<E>> + Drop> Parse for ExprStruct<E> {
+#[tactic(auto, using(node_traits::proofs::Others::other_stands))]
+impl<E: Reads<Expr<E>> + Drop> Parse for ExprStruct<E> {
     ghost reads = { λ tokens x. ReadAs E.kind E.view tokens (exprs.Struct x) };
 
     ghost refuses = { NoneOrOther E.kind E.view exprs.Struct };
@@ -355,7 +355,7 @@ impl<E: Makes<Expr<E>> + Drop> Parse for ExprStruct<E> {
     /// Reads an expression, and refuses all but a struct.
     fn parse(input: &mut ParseBuffer<'_>) -> Result<ExprStruct<E>, ParseFault> {
         let mut ahead = input.fork();
-        match read::<Expr<E>, E>(&mut ahead)? {
+        match <E as Reads<Expr<E>>>::read(&mut ahead)? {
             Expr::Struct(form) => {
                 input.advance_to(ahead);
                 Ok(form)
@@ -368,8 +368,8 @@ impl<E: Makes<Expr<E>> + Drop> Parse for ExprStruct<E> {
     }
 }
 
-#[tactic(auto, using(node_read::proofs::Others::other_stands))]
-impl<E: Makes<Expr<E>> + Drop> Parse for ExprTry<E> {
+#[tactic(auto, using(node_traits::proofs::Others::other_stands))]
+impl<E: Reads<Expr<E>> + Drop> Parse for ExprTry<E> {
     ghost reads = { λ tokens x. ReadAs E.kind E.view tokens (exprs.Try x) };
 
     ghost refuses = { NoneOrOther E.kind E.view exprs.Try };
@@ -377,7 +377,7 @@ impl<E: Makes<Expr<E>> + Drop> Parse for ExprTry<E> {
     /// Reads an expression, and refuses all but `?`.
     fn parse(input: &mut ParseBuffer<'_>) -> Result<ExprTry<E>, ParseFault> {
         let mut ahead = input.fork();
-        match read::<Expr<E>, E>(&mut ahead)? {
+        match <E as Reads<Expr<E>>>::read(&mut ahead)? {
             Expr::Try(form) => {
                 input.advance_to(ahead);
                 Ok(form)
@@ -390,8 +390,8 @@ impl<E: Makes<Expr<E>> + Drop> Parse for ExprTry<E> {
     }
 }
 
-#[tactic(auto, using(node_read::proofs::Others::other_stands))]
-impl<E: Makes<Expr<E>> + Drop> Parse for ExprUnary<E> {
+#[tactic(auto, using(node_traits::proofs::Others::other_stands))]
+impl<E: Reads<Expr<E>> + Drop> Parse for ExprUnary<E> {
     ghost reads = { λ tokens x. ReadAs E.kind E.view tokens (exprs.Unary x) };
 
     ghost refuses = { NoneOrOther E.kind E.view exprs.Unary };
@@ -399,7 +399,7 @@ impl<E: Makes<Expr<E>> + Drop> Parse for ExprUnary<E> {
     /// Reads an expression, and refuses all but an operator in front of an operand.
     fn parse(input: &mut ParseBuffer<'_>) -> Result<ExprUnary<E>, ParseFault> {
         let mut ahead = input.fork();
-        match read::<Expr<E>, E>(&mut ahead)? {
+        match <E as Reads<Expr<E>>>::read(&mut ahead)? {
             Expr::Unary(form) => {
                 input.advance_to(ahead);
                 Ok(form)
@@ -412,8 +412,8 @@ impl<E: Makes<Expr<E>> + Drop> Parse for ExprUnary<E> {
     }
 }
 
-#[tactic(auto, using(node_read::proofs::Others::other_stands))]
-impl<E: Makes<Expr<E>> + Drop> Parse for ExprYield<E> {
+#[tactic(auto, using(node_traits::proofs::Others::other_stands))]
+impl<E: Reads<Expr<E>> + Drop> Parse for ExprYield<E> {
     ghost reads = { λ tokens x. ReadAs E.kind E.view tokens (exprs.Yield x) };
 
     ghost refuses = { NoneOrOther E.kind E.view exprs.Yield };
@@ -421,7 +421,7 @@ impl<E: Makes<Expr<E>> + Drop> Parse for ExprYield<E> {
     /// Reads an expression, and refuses all but `yield`.
     fn parse(input: &mut ParseBuffer<'_>) -> Result<ExprYield<E>, ParseFault> {
         let mut ahead = input.fork();
-        match read::<Expr<E>, E>(&mut ahead)? {
+        match <E as Reads<Expr<E>>>::read(&mut ahead)? {
             Expr::Yield(form) => {
                 input.advance_to(ahead);
                 Ok(form)

@@ -1,6 +1,6 @@
 //! Items that are read from a stream, with their attributes and their visibility.
 
-ghost use Rattle.node_read.specs.Reads.{NoneStands, ReadAs};
+ghost use Rattle.node_traits.specs.Reads.{NoneStands, ReadAs};
 
 use crate::alias::ItemType;
 use crate::data::{ItemEnum, ItemStruct, ItemUnion};
@@ -12,182 +12,182 @@ use crate::mac::ItemMacro;
 use crate::module::{ItemExternCrate, ItemForeignMod, ItemMod};
 use crate::traits::{ItemTrait, ItemTraitAlias};
 use crate::value::{ItemConst, ItemStatic};
-use node_read::{Makes, read};
+use node_traits::Reads;
 use syn_error::ParseFault;
 use syn_input::{Parse, ParseBuffer};
 
-impl<E: Makes<ItemConst<E>> + Drop> Parse for ItemConst<E> {
+impl<E: Reads<ItemConst<E>> + Drop> Parse for ItemConst<E> {
     ghost reads = { ReadAs E.kind E.view };
 
     ghost refuses = { NoneStands E.kind };
 
     /// Reads a constant.
     fn parse(input: &mut ParseBuffer<'_>) -> Result<ItemConst<E>, ParseFault> {
-        read::<ItemConst<E>, E>(input)
+        <E as Reads<ItemConst<E>>>::read(input)
     }
 }
 
-impl<E: Makes<ItemEnum<E>> + Drop> Parse for ItemEnum<E> {
+impl<E: Reads<ItemEnum<E>> + Drop> Parse for ItemEnum<E> {
     ghost reads = { ReadAs E.kind E.view };
 
     ghost refuses = { NoneStands E.kind };
 
     /// Reads an enum.
     fn parse(input: &mut ParseBuffer<'_>) -> Result<ItemEnum<E>, ParseFault> {
-        read::<ItemEnum<E>, E>(input)
+        <E as Reads<ItemEnum<E>>>::read(input)
     }
 }
 
-impl<E: Makes<ItemExternCrate<E>> + Drop> Parse for ItemExternCrate<E> {
+impl<E: Reads<ItemExternCrate<E>> + Drop> Parse for ItemExternCrate<E> {
     ghost reads = { ReadAs E.kind E.view };
 
     ghost refuses = { NoneStands E.kind };
 
     /// Reads `extern crate`.
     fn parse(input: &mut ParseBuffer<'_>) -> Result<ItemExternCrate<E>, ParseFault> {
-        read::<ItemExternCrate<E>, E>(input)
+        <E as Reads<ItemExternCrate<E>>>::read(input)
     }
 }
 
-impl<E: Makes<ItemFn<E>> + Drop> Parse for ItemFn<E> {
+impl<E: Reads<ItemFn<E>> + Drop> Parse for ItemFn<E> {
     ghost reads = { ReadAs E.kind E.view };
 
     ghost refuses = { NoneStands E.kind };
 
     /// Reads a function.
     fn parse(input: &mut ParseBuffer<'_>) -> Result<ItemFn<E>, ParseFault> {
-        read::<ItemFn<E>, E>(input)
+        <E as Reads<ItemFn<E>>>::read(input)
     }
 }
 
-impl<E: Makes<ItemForeignMod<E>> + Drop> Parse for ItemForeignMod<E> {
+impl<E: Reads<ItemForeignMod<E>> + Drop> Parse for ItemForeignMod<E> {
     ghost reads = { ReadAs E.kind E.view };
 
     ghost refuses = { NoneStands E.kind };
 
     /// Reads a foreign block.
     fn parse(input: &mut ParseBuffer<'_>) -> Result<ItemForeignMod<E>, ParseFault> {
-        read::<ItemForeignMod<E>, E>(input)
+        <E as Reads<ItemForeignMod<E>>>::read(input)
     }
 }
 
-impl<E: Makes<ItemImpl<E>> + Drop> Parse for ItemImpl<E> {
+impl<E: Reads<ItemImpl<E>> + Drop> Parse for ItemImpl<E> {
     ghost reads = { ReadAs E.kind E.view };
 
     ghost refuses = { NoneStands E.kind };
 
     /// Reads an impl.
     fn parse(input: &mut ParseBuffer<'_>) -> Result<ItemImpl<E>, ParseFault> {
-        read::<ItemImpl<E>, E>(input)
+        <E as Reads<ItemImpl<E>>>::read(input)
     }
 }
 
-impl<E: Makes<ItemMacro<E>> + Drop> Parse for ItemMacro<E> {
+impl<E: Reads<ItemMacro<E>> + Drop> Parse for ItemMacro<E> {
     ghost reads = { ReadAs E.kind E.view };
 
     ghost refuses = { NoneStands E.kind };
 
     /// Reads a call of a macro as an item.
     fn parse(input: &mut ParseBuffer<'_>) -> Result<ItemMacro<E>, ParseFault> {
-        read::<ItemMacro<E>, E>(input)
+        <E as Reads<ItemMacro<E>>>::read(input)
     }
 }
 
-impl<E: Makes<ItemMod<E>> + Drop> Parse for ItemMod<E> {
+impl<E: Reads<ItemMod<E>> + Drop> Parse for ItemMod<E> {
     ghost reads = { ReadAs E.kind E.view };
 
     ghost refuses = { NoneStands E.kind };
 
     /// Reads a module.
     fn parse(input: &mut ParseBuffer<'_>) -> Result<ItemMod<E>, ParseFault> {
-        read::<ItemMod<E>, E>(input)
+        <E as Reads<ItemMod<E>>>::read(input)
     }
 }
 
-impl<E: Makes<ItemStatic<E>> + Drop> Parse for ItemStatic<E> {
+impl<E: Reads<ItemStatic<E>> + Drop> Parse for ItemStatic<E> {
     ghost reads = { ReadAs E.kind E.view };
 
     ghost refuses = { NoneStands E.kind };
 
     /// Reads a static.
     fn parse(input: &mut ParseBuffer<'_>) -> Result<ItemStatic<E>, ParseFault> {
-        read::<ItemStatic<E>, E>(input)
+        <E as Reads<ItemStatic<E>>>::read(input)
     }
 }
 
-impl<E: Makes<ItemStruct<E>> + Drop> Parse for ItemStruct<E> {
+impl<E: Reads<ItemStruct<E>> + Drop> Parse for ItemStruct<E> {
     ghost reads = { ReadAs E.kind E.view };
 
     ghost refuses = { NoneStands E.kind };
 
     /// Reads a struct.
     fn parse(input: &mut ParseBuffer<'_>) -> Result<ItemStruct<E>, ParseFault> {
-        read::<ItemStruct<E>, E>(input)
+        <E as Reads<ItemStruct<E>>>::read(input)
     }
 }
 
-impl<E: Makes<ItemTrait<E>> + Drop> Parse for ItemTrait<E> {
+impl<E: Reads<ItemTrait<E>> + Drop> Parse for ItemTrait<E> {
     ghost reads = { ReadAs E.kind E.view };
 
     ghost refuses = { NoneStands E.kind };
 
     /// Reads a trait.
     fn parse(input: &mut ParseBuffer<'_>) -> Result<ItemTrait<E>, ParseFault> {
-        read::<ItemTrait<E>, E>(input)
+        <E as Reads<ItemTrait<E>>>::read(input)
     }
 }
 
-impl<E: Makes<ItemTraitAlias<E>> + Drop> Parse for ItemTraitAlias<E> {
+impl<E: Reads<ItemTraitAlias<E>> + Drop> Parse for ItemTraitAlias<E> {
     ghost reads = { ReadAs E.kind E.view };
 
     ghost refuses = { NoneStands E.kind };
 
     /// Reads bounds with a name.
     fn parse(input: &mut ParseBuffer<'_>) -> Result<ItemTraitAlias<E>, ParseFault> {
-        read::<ItemTraitAlias<E>, E>(input)
+        <E as Reads<ItemTraitAlias<E>>>::read(input)
     }
 }
 
-impl<E: Makes<ItemType<E>> + Drop> Parse for ItemType<E> {
+impl<E: Reads<ItemType<E>> + Drop> Parse for ItemType<E> {
     ghost reads = { ReadAs E.kind E.view };
 
     ghost refuses = { NoneStands E.kind };
 
     /// Reads a type with another name.
     fn parse(input: &mut ParseBuffer<'_>) -> Result<ItemType<E>, ParseFault> {
-        read::<ItemType<E>, E>(input)
+        <E as Reads<ItemType<E>>>::read(input)
     }
 }
 
-impl<E: Makes<ItemUnion<E>> + Drop> Parse for ItemUnion<E> {
+impl<E: Reads<ItemUnion<E>> + Drop> Parse for ItemUnion<E> {
     ghost reads = { ReadAs E.kind E.view };
 
     ghost refuses = { NoneStands E.kind };
 
     /// Reads a union.
     fn parse(input: &mut ParseBuffer<'_>) -> Result<ItemUnion<E>, ParseFault> {
-        read::<ItemUnion<E>, E>(input)
+        <E as Reads<ItemUnion<E>>>::read(input)
     }
 }
 
-impl<E: Makes<ItemUse<E>> + Drop> Parse for ItemUse<E> {
+impl<E: Reads<ItemUse<E>> + Drop> Parse for ItemUse<E> {
     ghost reads = { ReadAs E.kind E.view };
 
     ghost refuses = { NoneStands E.kind };
 
     /// Reads an import.
     fn parse(input: &mut ParseBuffer<'_>) -> Result<ItemUse<E>, ParseFault> {
-        read::<ItemUse<E>, E>(input)
+        <E as Reads<ItemUse<E>>>::read(input)
     }
 }
 
-impl<E: Makes<DeriveInput<E>> + Drop> Parse for DeriveInput<E> {
+impl<E: Reads<DeriveInput<E>> + Drop> Parse for DeriveInput<E> {
     ghost reads = { ReadAs E.kind E.view };
 
     ghost refuses = { NoneStands E.kind };
 
     /// Reads a struct, an enum or a union.
     fn parse(input: &mut ParseBuffer<'_>) -> Result<DeriveInput<E>, ParseFault> {
-        read::<DeriveInput<E>, E>(input)
+        <E as Reads<DeriveInput<E>>>::read(input)
     }
 }

@@ -1,6 +1,6 @@
 //! Fields, parameters and what stands in blocks of items, read from a stream.
 
-ghost use Rattle.node_read.specs.Reads.{NoneStands, ReadAs};
+ghost use Rattle.node_traits.specs.Reads.{NoneStands, ReadAs};
 
 use crate::data::{FieldsNamed, FieldsUnnamed, Variant};
 use crate::function::{FnArg, Receiver, Signature};
@@ -9,237 +9,237 @@ use crate::module::{
     ForeignItem, ForeignItemFn, ForeignItemMacro, ForeignItemStatic, ForeignItemType,
 };
 use crate::traits::{TraitItem, TraitItemConst, TraitItemFn, TraitItemMacro, TraitItemType};
-use node_read::{Makes, read};
+use node_traits::Reads;
 use syn_error::ParseFault;
 use syn_input::{Parse, ParseBuffer};
 
-impl<E: Makes<FieldsNamed<E>> + Drop> Parse for FieldsNamed<E> {
+impl<E: Reads<FieldsNamed<E>> + Drop> Parse for FieldsNamed<E> {
     ghost reads = { ReadAs E.kind E.view };
 
     ghost refuses = { NoneStands E.kind };
 
     /// Reads fields in braces.
     fn parse(input: &mut ParseBuffer<'_>) -> Result<FieldsNamed<E>, ParseFault> {
-        read::<FieldsNamed<E>, E>(input)
+        <E as Reads<FieldsNamed<E>>>::read(input)
     }
 }
 
-impl<E: Makes<FieldsUnnamed<E>> + Drop> Parse for FieldsUnnamed<E> {
+impl<E: Reads<FieldsUnnamed<E>> + Drop> Parse for FieldsUnnamed<E> {
     ghost reads = { ReadAs E.kind E.view };
 
     ghost refuses = { NoneStands E.kind };
 
     /// Reads fields in parentheses.
     fn parse(input: &mut ParseBuffer<'_>) -> Result<FieldsUnnamed<E>, ParseFault> {
-        read::<FieldsUnnamed<E>, E>(input)
+        <E as Reads<FieldsUnnamed<E>>>::read(input)
     }
 }
 
-impl<E: Makes<Variant<E>> + Drop> Parse for Variant<E> {
+impl<E: Reads<Variant<E>> + Drop> Parse for Variant<E> {
     ghost reads = { ReadAs E.kind E.view };
 
     ghost refuses = { NoneStands E.kind };
 
     /// Reads a variant of an enum.
     fn parse(input: &mut ParseBuffer<'_>) -> Result<Variant<E>, ParseFault> {
-        read::<Variant<E>, E>(input)
+        <E as Reads<Variant<E>>>::read(input)
     }
 }
 
-impl<E: Makes<Signature<E>> + Drop> Parse for Signature<E> {
+impl<E: Reads<Signature<E>> + Drop> Parse for Signature<E> {
     ghost reads = { ReadAs E.kind E.view };
 
     ghost refuses = { NoneStands E.kind };
 
     /// Reads the signature of a function.
     fn parse(input: &mut ParseBuffer<'_>) -> Result<Signature<E>, ParseFault> {
-        read::<Signature<E>, E>(input)
+        <E as Reads<Signature<E>>>::read(input)
     }
 }
 
-impl<E: Makes<FnArg<E>> + Drop> Parse for FnArg<E> {
+impl<E: Reads<FnArg<E>> + Drop> Parse for FnArg<E> {
     ghost reads = { ReadAs E.kind E.view };
 
     ghost refuses = { NoneStands E.kind };
 
     /// Reads a parameter of a function.
     fn parse(input: &mut ParseBuffer<'_>) -> Result<FnArg<E>, ParseFault> {
-        read::<FnArg<E>, E>(input)
+        <E as Reads<FnArg<E>>>::read(input)
     }
 }
 
-impl<E: Makes<Receiver<E>> + Drop> Parse for Receiver<E> {
+impl<E: Reads<Receiver<E>> + Drop> Parse for Receiver<E> {
     ghost reads = { ReadAs E.kind E.view };
 
     ghost refuses = { NoneStands E.kind };
 
     /// Reads what a method is called on.
     fn parse(input: &mut ParseBuffer<'_>) -> Result<Receiver<E>, ParseFault> {
-        read::<Receiver<E>, E>(input)
+        <E as Reads<Receiver<E>>>::read(input)
     }
 }
 
-impl<E: Makes<ForeignItem<E>> + Drop> Parse for ForeignItem<E> {
+impl<E: Reads<ForeignItem<E>> + Drop> Parse for ForeignItem<E> {
     ghost reads = { ReadAs E.kind E.view };
 
     ghost refuses = { NoneStands E.kind };
 
     /// Reads an item of a foreign block.
     fn parse(input: &mut ParseBuffer<'_>) -> Result<ForeignItem<E>, ParseFault> {
-        read::<ForeignItem<E>, E>(input)
+        <E as Reads<ForeignItem<E>>>::read(input)
     }
 }
 
-impl<E: Makes<ForeignItemFn<E>> + Drop> Parse for ForeignItemFn<E> {
+impl<E: Reads<ForeignItemFn<E>> + Drop> Parse for ForeignItemFn<E> {
     ghost reads = { ReadAs E.kind E.view };
 
     ghost refuses = { NoneStands E.kind };
 
     /// Reads a function of a foreign block.
     fn parse(input: &mut ParseBuffer<'_>) -> Result<ForeignItemFn<E>, ParseFault> {
-        read::<ForeignItemFn<E>, E>(input)
+        <E as Reads<ForeignItemFn<E>>>::read(input)
     }
 }
 
-impl<E: Makes<ForeignItemStatic<E>> + Drop> Parse for ForeignItemStatic<E> {
+impl<E: Reads<ForeignItemStatic<E>> + Drop> Parse for ForeignItemStatic<E> {
     ghost reads = { ReadAs E.kind E.view };
 
     ghost refuses = { NoneStands E.kind };
 
     /// Reads a static of a foreign block.
     fn parse(input: &mut ParseBuffer<'_>) -> Result<ForeignItemStatic<E>, ParseFault> {
-        read::<ForeignItemStatic<E>, E>(input)
+        <E as Reads<ForeignItemStatic<E>>>::read(input)
     }
 }
 
-impl<E: Makes<ForeignItemType<E>> + Drop> Parse for ForeignItemType<E> {
+impl<E: Reads<ForeignItemType<E>> + Drop> Parse for ForeignItemType<E> {
     ghost reads = { ReadAs E.kind E.view };
 
     ghost refuses = { NoneStands E.kind };
 
     /// Reads a type of a foreign block.
     fn parse(input: &mut ParseBuffer<'_>) -> Result<ForeignItemType<E>, ParseFault> {
-        read::<ForeignItemType<E>, E>(input)
+        <E as Reads<ForeignItemType<E>>>::read(input)
     }
 }
 
-impl<E: Makes<ForeignItemMacro<E>> + Drop> Parse for ForeignItemMacro<E> {
+impl<E: Reads<ForeignItemMacro<E>> + Drop> Parse for ForeignItemMacro<E> {
     ghost reads = { ReadAs E.kind E.view };
 
     ghost refuses = { NoneStands E.kind };
 
     /// Reads a call of a macro in a foreign block.
     fn parse(input: &mut ParseBuffer<'_>) -> Result<ForeignItemMacro<E>, ParseFault> {
-        read::<ForeignItemMacro<E>, E>(input)
+        <E as Reads<ForeignItemMacro<E>>>::read(input)
     }
 }
 
-impl<E: Makes<TraitItem<E>> + Drop> Parse for TraitItem<E> {
+impl<E: Reads<TraitItem<E>> + Drop> Parse for TraitItem<E> {
     ghost reads = { ReadAs E.kind E.view };
 
     ghost refuses = { NoneStands E.kind };
 
     /// Reads an item of a trait.
     fn parse(input: &mut ParseBuffer<'_>) -> Result<TraitItem<E>, ParseFault> {
-        read::<TraitItem<E>, E>(input)
+        <E as Reads<TraitItem<E>>>::read(input)
     }
 }
 
-impl<E: Makes<TraitItemConst<E>> + Drop> Parse for TraitItemConst<E> {
+impl<E: Reads<TraitItemConst<E>> + Drop> Parse for TraitItemConst<E> {
     ghost reads = { ReadAs E.kind E.view };
 
     ghost refuses = { NoneStands E.kind };
 
     /// Reads a constant of a trait.
     fn parse(input: &mut ParseBuffer<'_>) -> Result<TraitItemConst<E>, ParseFault> {
-        read::<TraitItemConst<E>, E>(input)
+        <E as Reads<TraitItemConst<E>>>::read(input)
     }
 }
 
-impl<E: Makes<TraitItemFn<E>> + Drop> Parse for TraitItemFn<E> {
+impl<E: Reads<TraitItemFn<E>> + Drop> Parse for TraitItemFn<E> {
     ghost reads = { ReadAs E.kind E.view };
 
     ghost refuses = { NoneStands E.kind };
 
     /// Reads a function of a trait.
     fn parse(input: &mut ParseBuffer<'_>) -> Result<TraitItemFn<E>, ParseFault> {
-        read::<TraitItemFn<E>, E>(input)
+        <E as Reads<TraitItemFn<E>>>::read(input)
     }
 }
 
-impl<E: Makes<TraitItemType<E>> + Drop> Parse for TraitItemType<E> {
+impl<E: Reads<TraitItemType<E>> + Drop> Parse for TraitItemType<E> {
     ghost reads = { ReadAs E.kind E.view };
 
     ghost refuses = { NoneStands E.kind };
 
     /// Reads a type of a trait.
     fn parse(input: &mut ParseBuffer<'_>) -> Result<TraitItemType<E>, ParseFault> {
-        read::<TraitItemType<E>, E>(input)
+        <E as Reads<TraitItemType<E>>>::read(input)
     }
 }
 
-impl<E: Makes<TraitItemMacro<E>> + Drop> Parse for TraitItemMacro<E> {
+impl<E: Reads<TraitItemMacro<E>> + Drop> Parse for TraitItemMacro<E> {
     ghost reads = { ReadAs E.kind E.view };
 
     ghost refuses = { NoneStands E.kind };
 
     /// Reads a call of a macro in a trait.
     fn parse(input: &mut ParseBuffer<'_>) -> Result<TraitItemMacro<E>, ParseFault> {
-        read::<TraitItemMacro<E>, E>(input)
+        <E as Reads<TraitItemMacro<E>>>::read(input)
     }
 }
 
-impl<E: Makes<ImplItem<E>> + Drop> Parse for ImplItem<E> {
+impl<E: Reads<ImplItem<E>> + Drop> Parse for ImplItem<E> {
     ghost reads = { ReadAs E.kind E.view };
 
     ghost refuses = { NoneStands E.kind };
 
     /// Reads an item of an impl.
     fn parse(input: &mut ParseBuffer<'_>) -> Result<ImplItem<E>, ParseFault> {
-        read::<ImplItem<E>, E>(input)
+        <E as Reads<ImplItem<E>>>::read(input)
     }
 }
 
-impl<E: Makes<ImplItemConst<E>> + Drop> Parse for ImplItemConst<E> {
+impl<E: Reads<ImplItemConst<E>> + Drop> Parse for ImplItemConst<E> {
     ghost reads = { ReadAs E.kind E.view };
 
     ghost refuses = { NoneStands E.kind };
 
     /// Reads a constant of an impl.
     fn parse(input: &mut ParseBuffer<'_>) -> Result<ImplItemConst<E>, ParseFault> {
-        read::<ImplItemConst<E>, E>(input)
+        <E as Reads<ImplItemConst<E>>>::read(input)
     }
 }
 
-impl<E: Makes<ImplItemFn<E>> + Drop> Parse for ImplItemFn<E> {
+impl<E: Reads<ImplItemFn<E>> + Drop> Parse for ImplItemFn<E> {
     ghost reads = { ReadAs E.kind E.view };
 
     ghost refuses = { NoneStands E.kind };
 
     /// Reads a function of an impl.
     fn parse(input: &mut ParseBuffer<'_>) -> Result<ImplItemFn<E>, ParseFault> {
-        read::<ImplItemFn<E>, E>(input)
+        <E as Reads<ImplItemFn<E>>>::read(input)
     }
 }
 
-impl<E: Makes<ImplItemType<E>> + Drop> Parse for ImplItemType<E> {
+impl<E: Reads<ImplItemType<E>> + Drop> Parse for ImplItemType<E> {
     ghost reads = { ReadAs E.kind E.view };
 
     ghost refuses = { NoneStands E.kind };
 
     /// Reads a type of an impl.
     fn parse(input: &mut ParseBuffer<'_>) -> Result<ImplItemType<E>, ParseFault> {
-        read::<ImplItemType<E>, E>(input)
+        <E as Reads<ImplItemType<E>>>::read(input)
     }
 }
 
-impl<E: Makes<ImplItemMacro<E>> + Drop> Parse for ImplItemMacro<E> {
+impl<E: Reads<ImplItemMacro<E>> + Drop> Parse for ImplItemMacro<E> {
     ghost reads = { ReadAs E.kind E.view };
 
     ghost refuses = { NoneStands E.kind };
 
     /// Reads a call of a macro in an impl.
     fn parse(input: &mut ParseBuffer<'_>) -> Result<ImplItemMacro<E>, ParseFault> {
-        read::<ImplItemMacro<E>, E>(input)
+        <E as Reads<ImplItemMacro<E>>>::read(input)
     }
 }

@@ -1,2 +1,1 @@
 mod Left
-pub mod Others

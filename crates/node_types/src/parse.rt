@@ -1,6 +1,6 @@
 //! Types that are read from a stream.
 
-ghost use Rattle.node_read.specs.Reads.{NoneOrOther, NoneStands, ReadAs};
+ghost use Rattle.node_traits.specs.Reads.{NoneOrOther, NoneStands, ReadAs};
 ghost use Rattle.node_types.specs.declared.«Type».TheVariants as types;
 ghost use Rattle.proc_macro2.specs.Token.{plain};
 ghost use Rattle.std.specs.Prelude.{◌++◌, ◌≡◌, codes, false};
@@ -11,24 +11,24 @@ use crate::kinds::{
     TypeArray, TypeImplTrait, TypeInfer, TypeNever, TypeParen, TypePath, TypePtr, TypeReference,
     TypeSlice, TypeTraitObject, TypeTuple,
 };
-use node_read::{Makes, read};
+use node_traits::Reads;
 use syn_error::ParseFault;
 use syn_input::{Parse, ParseBuffer};
 use syn_kinds::token;
 
-impl<E: Makes<Type<E>> + Drop> Parse for Type<E> {
+impl<E: Reads<Type<E>> + Drop> Parse for Type<E> {
     ghost reads = { ReadAs E.kind E.view };
 
     ghost refuses = { NoneStands E.kind };
 
     /// Reads a type, in which bounds may stand with `+`.
     fn parse(input: &mut ParseBuffer<'_>) -> Result<Type<E>, ParseFault> {
-        read::<Type<E>, E>(input)
+        <E as Reads<Type<E>>>::read(input)
     }
 }
 
-#[tactic(auto, using(node_read::proofs::Others::other_stands))]
-impl<E: Makes<Type<E>> + Drop> Parse for TypeArray<E> {
+#[tactic(auto, using(node_traits::proofs::Others::other_stands))]
+impl<E: Reads<Type<E>> + Drop> Parse for TypeArray<E> {
     ghost reads = { λ tokens x. ReadAs E.kind E.view tokens (types.Array x) };
 
     ghost refuses = { NoneOrOther E.kind E.view types.Array };
@@ -36,7 +36,7 @@ impl<E: Makes<Type<E>> + Drop> Parse for TypeArray<E> {
     /// Reads a type, and refuses all but an array.
     fn parse(input: &mut ParseBuffer<'_>) -> Result<TypeArray<E>, ParseFault> {
         let mut ahead = input.fork();
-        match read::<Type<E>, E>(&mut ahead)? {
+        match <E as Reads<Type<E>>>::read(&mut ahead)? {
             Type::Array(form) => {
                 input.advance_to(ahead);
                 Ok(form)
@@ -49,8 +49,8 @@ impl<E: Makes<Type<E>> + Drop> Parse for TypeArray<E> {
     }
 }
 
-#[tactic(auto, using(node_read::proofs::Others::other_stands))]
-impl<E: Makes<Type<E>> + Drop> Parse for TypeParen<E> {
+#[tactic(auto, using(node_traits::proofs::Others::other_stands))]
+impl<E: Reads<Type<E>> + Drop> Parse for TypeParen<E> {
     ghost reads = { λ tokens x. ReadAs E.kind E.view tokens (types.Paren x) };
 
     ghost refuses = { NoneOrOther E.kind E.view types.Paren };
@@ -58,7 +58,7 @@ impl<E: Makes<Type<E>> + Drop> Parse for TypeParen<E> {
     /// Reads a type, and refuses all but one in parentheses.
     fn parse(input: &mut ParseBuffer<'_>) -> Result<TypeParen<E>, ParseFault> {
         let mut ahead = input.fork();
-        match read::<Type<E>, E>(&mut ahead)? {
+        match <E as Reads<Type<E>>>::read(&mut ahead)? {
             Type::Paren(form) => {
                 input.advance_to(ahead);
                 Ok(form)
@@ -71,8 +71,8 @@ impl<E: Makes<Type<E>> + Drop> Parse for TypeParen<E> {
     }
 }
 
-#[tactic(auto, using(node_read::proofs::Others::other_stands))]
-impl<E: Makes<Type<E>> + Drop> Parse for TypeSlice<E> {
+#[tactic(auto, using(node_traits::proofs::Others::other_stands))]
+impl<E: Reads<Type<E>> + Drop> Parse for TypeSlice<E> {
     ghost reads = { λ tokens x. ReadAs E.kind E.view tokens (types.Slice x) };
 
     ghost refuses = { NoneOrOther E.kind E.view types.Slice };
@@ -80,7 +80,7 @@ impl<E: Makes<Type<E>> + Drop> Parse for TypeSlice<E> {
     /// Reads a type, and refuses all but a slice.
     fn parse(input: &mut ParseBuffer<'_>) -> Result<TypeSlice<E>, ParseFault> {
         let mut ahead = input.fork();
-        match read::<Type<E>, E>(&mut ahead)? {
+        match <E as Reads<Type<E>>>::read(&mut ahead)? {
             Type::Slice(form) => {
                 input.advance_to(ahead);
                 Ok(form)
@@ -93,8 +93,8 @@ impl<E: Makes<Type<E>> + Drop> Parse for TypeSlice<E> {
     }
 }
 
-#[tactic(auto, using(node_read::proofs::Others::other_stands))]
-impl<E: Makes<Type<E>> + Drop> Parse for TypeTuple<E> {
+#[tactic(auto, using(node_traits::proofs::Others::other_stands))]
+impl<E: Reads<Type<E>> + Drop> Parse for TypeTuple<E> {
     ghost reads = { λ tokens x. ReadAs E.kind E.view tokens (types.Tuple x) };
 
     ghost refuses = { NoneOrOther E.kind E.view types.Tuple };
@@ -102,7 +102,7 @@ impl<E: Makes<Type<E>> + Drop> Parse for TypeTuple<E> {
     /// Reads a type, and refuses all but a tuple.
     fn parse(input: &mut ParseBuffer<'_>) -> Result<TypeTuple<E>, ParseFault> {
         let mut ahead = input.fork();
-        match read::<Type<E>, E>(&mut ahead)? {
+        match <E as Reads<Type<E>>>::read(&mut ahead)? {
             Type::Tuple(form) => {
                 input.advance_to(ahead);
                 Ok(form)
@@ -115,14 +115,14 @@ impl<E: Makes<Type<E>> + Drop> Parse for TypeTuple<E> {
     }
 }
 
-impl<E: Makes<TypeFnPtr<E>> + Drop> Parse for TypeFnPtr<E> {
+impl<E: Reads<TypeFnPtr<E>> + Drop> Parse for TypeFnPtr<E> {
     ghost reads = { ReadAs E.kind E.view };
 
     ghost refuses = { NoneStands E.kind };
 
     /// Reads a function pointer.
     fn parse(input: &mut ParseBuffer<'_>) -> Result<TypeFnPtr<E>, ParseFault> {
-        read::<TypeFnPtr<E>, E>(input)
+        <E as Reads<TypeFnPtr<E>>>::read(input)
     }
 }
 
@@ -159,68 +159,68 @@ impl Parse for TypeNever {
     }
 }
 
-impl<E: Makes<TypeImplTrait<E>> + Drop> Parse for TypeImplTrait<E> {
+impl<E: Reads<TypeImplTrait<E>> + Drop> Parse for TypeImplTrait<E> {
     ghost reads = { ReadAs E.kind E.view };
 
     ghost refuses = { NoneStands E.kind };
 
     /// Reads `impl` and bounds with `+`.
     fn parse(input: &mut ParseBuffer<'_>) -> Result<TypeImplTrait<E>, ParseFault> {
-        read::<TypeImplTrait<E>, E>(input)
+        <E as Reads<TypeImplTrait<E>>>::read(input)
     }
 }
 
-impl<E: Makes<TypePath<E>> + Drop> Parse for TypePath<E> {
+impl<E: Reads<TypePath<E>> + Drop> Parse for TypePath<E> {
     ghost reads = { ReadAs E.kind E.view };
 
     ghost refuses = { NoneStands E.kind };
 
     /// Reads a path or a qualified one, with no arguments in parentheses.
     fn parse(input: &mut ParseBuffer<'_>) -> Result<TypePath<E>, ParseFault> {
-        read::<TypePath<E>, E>(input)
+        <E as Reads<TypePath<E>>>::read(input)
     }
 }
 
-impl<E: Makes<TypePtr<E>> + Drop> Parse for TypePtr<E> {
+impl<E: Reads<TypePtr<E>> + Drop> Parse for TypePtr<E> {
     ghost reads = { ReadAs E.kind E.view };
 
     ghost refuses = { NoneStands E.kind };
 
     /// Reads a raw pointer.
     fn parse(input: &mut ParseBuffer<'_>) -> Result<TypePtr<E>, ParseFault> {
-        read::<TypePtr<E>, E>(input)
+        <E as Reads<TypePtr<E>>>::read(input)
     }
 }
 
-impl<E: Makes<TypeReference<E>> + Drop> Parse for TypeReference<E> {
+impl<E: Reads<TypeReference<E>> + Drop> Parse for TypeReference<E> {
     ghost reads = { ReadAs E.kind E.view };
 
     ghost refuses = { NoneStands E.kind };
 
     /// Reads a reference.
     fn parse(input: &mut ParseBuffer<'_>) -> Result<TypeReference<E>, ParseFault> {
-        read::<TypeReference<E>, E>(input)
+        <E as Reads<TypeReference<E>>>::read(input)
     }
 }
 
-impl<E: Makes<TypeTraitObject<E>> + Drop> Parse for TypeTraitObject<E> {
+impl<E: Reads<TypeTraitObject<E>> + Drop> Parse for TypeTraitObject<E> {
     ghost reads = { ReadAs E.kind E.view };
 
     ghost refuses = { NoneStands E.kind };
 
     /// Reads `dyn` and bounds with `+`.
     fn parse(input: &mut ParseBuffer<'_>) -> Result<TypeTraitObject<E>, ParseFault> {
-        read::<TypeTraitObject<E>, E>(input)
+        <E as Reads<TypeTraitObject<E>>>::read(input)
     }
 }
 
-impl<E: Makes<FnPtrArg<E>> + Drop> Parse for FnPtrArg<E> {
+impl<E: Reads<FnPtrArg<E>> + Drop> Parse for FnPtrArg<E> {
     ghost reads = { ReadAs E.kind E.view };
 
     ghost refuses = { NoneStands E.kind };
 
     /// Reads a parameter of a function pointer.
     fn parse(input: &mut ParseBuffer<'_>) -> Result<FnPtrArg<E>, ParseFault> {
-        read::<FnPtrArg<E>, E>(input)
+        <E as Reads<FnPtrArg<E>>>::read(input)
     }
 }

@@ -6,7 +6,7 @@ use Rattle.syn_buffer.specs.declared.position.Cursor.{Cursor}
 use Rattle.syn_grammar.specs.Kind.{Kind}
 use Rattle.syn_grammar.specs.Read.{IsRead}
 use Rattle.syn_grammar.specs.Tree.{Tree}
-use Rattle.node_read.specs.Reads.{IsOther, NoneOrOther}
+use Rattle.node_traits.specs.Reads.{IsOther, NoneOrOther}
 
 pub other_stands : {T V : Type 0} (kind : Kind) (view : T → Tree) (variant : V → T) (start from behind : Cursor)
     (value : T) → from ≡ start → IsRead kind (plain (rest from)) (view value) (plain (rest behind))
