@@ -17,6 +17,7 @@ use crate::operator::{
 use proc_macro2::tree::TokenStream;
 
 /// An expression, by its form. What stands inside it is an `E`.
+#[derive(Drop)]
 pub enum Expr<E> {
     /// An array: `[a, b]`.
     Array(ExprArray<E>),
@@ -98,51 +99,4 @@ pub enum Expr<E> {
     While(ExprWhile<E>),
     /// A value that a generator gives: `yield x`.
     Yield(ExprYield<E>),
-}
-
-impl<E: Drop> Drop for Expr<E> {
-    fn drop(self) {
-        match self {
-            Expr::Array(node) => drop(node),
-            Expr::Assign(node) => drop(node),
-            Expr::Async(node) => drop(node),
-            Expr::Await(node) => drop(node),
-            Expr::Binary(node) => drop(node),
-            Expr::Block(node) => drop(node),
-            Expr::Break(node) => drop(node),
-            Expr::Call(node) => drop(node),
-            Expr::Cast(node) => drop(node),
-            Expr::Closure(node) => drop(node),
-            Expr::Const(node) => drop(node),
-            Expr::Continue(node) => drop(node),
-            Expr::Field(node) => drop(node),
-            Expr::ForLoop(node) => drop(node),
-            Expr::Group(node) => drop(node),
-            Expr::If(node) => drop(node),
-            Expr::Index(node) => drop(node),
-            Expr::Infer(node) => drop(node),
-            Expr::Let(node) => drop(node),
-            Expr::Lit(node) => drop(node),
-            Expr::Loop(node) => drop(node),
-            Expr::Macro(node) => drop(node),
-            Expr::Match(node) => drop(node),
-            Expr::MethodCall(node) => drop(node),
-            Expr::Paren(node) => drop(node),
-            Expr::Path(node) => drop(node),
-            Expr::Range(node) => drop(node),
-            Expr::RawAddr(node) => drop(node),
-            Expr::Reference(node) => drop(node),
-            Expr::Repeat(node) => drop(node),
-            Expr::Return(node) => drop(node),
-            Expr::Struct(node) => drop(node),
-            Expr::Try(node) => drop(node),
-            Expr::TryBlock(node) => drop(node),
-            Expr::Tuple(node) => drop(node),
-            Expr::Unary(node) => drop(node),
-            Expr::Unsafe(node) => drop(node),
-            Expr::Verbatim(node) => drop(node),
-            Expr::While(node) => drop(node),
-            Expr::Yield(node) => drop(node),
-        }
-    }
 }

@@ -2,6 +2,7 @@
 //!
 //! - `macros`: calls of macros.
 //! - `members`: members of structs.
+//! - `metas`: what attributes hold.
 //! - `picked`: elements before a last one of another kind.
 //! - `fronts`: attributes in front of others.
 #![tactic(auto)]
@@ -9,4 +10,5 @@
 pub mod fronts;
 pub mod macros;
 pub mod members;
+pub mod metas;
 pub mod picked;

@@ -38,17 +38,17 @@ use Rattle.node_views.specs.Members.{item_foreign_mod, item_impl, item_trait, it
 use Rattle.node_views.specs.Paths.{meta}
 use Rattle.node_views.specs.Patterns.{pat}
 use Rattle.node_views.specs.Types.{type_}
-use Rattle.node_closed.specs.Views.{item_step, item_view, node_step, node_view}
-use Rattle.node_closed.proofs.Expressions.{expr_mapped}
-use Rattle.node_closed.proofs.Imports.{item_use_mapped}
-use Rattle.node_closed.proofs.Items.{item_const_mapped, item_enum_mapped, item_extern_crate_mapped, item_fn_mapped}
-use Rattle.node_closed.proofs.Items.{item_macro_mapped, item_mod_mapped, item_static_mapped, item_struct_mapped}
-use Rattle.node_closed.proofs.Items.{item_type_mapped, item_union_mapped}
-use Rattle.node_closed.proofs.Members.{item_foreign_mod_mapped, item_impl_mapped, item_trait_alias_mapped}
-use Rattle.node_closed.proofs.Members.{item_trait_mapped}
-use Rattle.node_closed.proofs.Paths.{meta_mapped}
-use Rattle.node_closed.proofs.Patterns.{pat_mapped}
-use Rattle.node_closed.proofs.Types.{type_mapped}
+use Rattle.node_tree.specs.Views.{item_step, item_view, node_step, node_view}
+use Rattle.node_tree.proofs.Expressions.{expr_mapped}
+use Rattle.node_tree.proofs.Imports.{item_use_mapped}
+use Rattle.node_tree.proofs.Items.{item_const_mapped, item_enum_mapped, item_extern_crate_mapped, item_fn_mapped}
+use Rattle.node_tree.proofs.Items.{item_macro_mapped, item_mod_mapped, item_static_mapped, item_struct_mapped}
+use Rattle.node_tree.proofs.Items.{item_type_mapped, item_union_mapped}
+use Rattle.node_tree.proofs.Members.{item_foreign_mod_mapped, item_impl_mapped, item_trait_alias_mapped}
+use Rattle.node_tree.proofs.Members.{item_trait_mapped}
+use Rattle.node_tree.proofs.Paths.{meta_mapped}
+use Rattle.node_tree.proofs.Patterns.{pat_mapped}
+use Rattle.node_tree.proofs.Types.{type_mapped}
 
 -- nodes
 

@@ -24,12 +24,12 @@ use Rattle.node_views.specs.Paths.{attribute}
 use Rattle.node_views.specs.Data.{all_attributes, enum_form, field, field_of, fields_named, fields_unnamed}
 use Rattle.node_views.specs.Data.{generics_of, named, struct_end, struct_form, union_form, value, variant}
 use Rattle.node_views.specs.Data.{variant_fields}
-use Rattle.node_closed.proofs.Words.{listed_mapped, optional_mapped, punctuated_map, second_map, turns_mapped}
-use Rattle.node_closed.proofs.ItemMaps.{field_map, fields_map, fields_named_map, fields_unnamed_map, variant_map}
-use Rattle.node_closed.proofs.TypeMaps.{attribute_map, generics_map}
-use Rattle.node_closed.proofs.Paths.{attribute_mapped}
-use Rattle.node_closed.proofs.Types.{type_mapped}
-use Rattle.node_closed.proofs.Generics.{generics_mapped, visibility_mapped, where_of_mapped}
+use Rattle.node_tree.proofs.Words.{listed_mapped, optional_mapped, punctuated_map, second_map, turns_mapped}
+use Rattle.node_tree.proofs.ItemMaps.{field_map, fields_map, fields_named_map, fields_unnamed_map, variant_map}
+use Rattle.node_tree.proofs.TypeMaps.{attribute_map, generics_map}
+use Rattle.node_tree.proofs.Paths.{attribute_mapped}
+use Rattle.node_tree.proofs.Types.{type_mapped}
+use Rattle.node_tree.proofs.Generics.{generics_mapped, visibility_mapped, where_of_mapped}
 
 pub all_attributes_mapped :
     {A : Type 0} (h : A → Tree) (xs : List (Attribute A))

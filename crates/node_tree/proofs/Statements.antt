@@ -17,11 +17,11 @@ use Rattle.syn_kinds.specs.declared.keyword.Keyword.{Keyword}
 use Rattle.node_words.specs.Words.{◌∶◌, ◌▸◌, alternative, enclosed, expression, judged, keyword, mark, optional}
 use Rattle.node_views.specs.Statements.{attributed, behind_outer, block, block_stmt, body, diverge, let_pattern}
 use Rattle.node_views.specs.Statements.{let_value, local, local_init, semicolon, statements, stmt, stmt_macro}
-use Rattle.node_closed.proofs.Words.{box_map, option_map, optional_mapped, second_map, turns_mapped}
-use Rattle.node_closed.proofs.ExpressionMaps.{block_map, local_init_map, local_map, stmt_macro_map, stmt_map}
-use Rattle.node_closed.proofs.TypeMaps.{attribute_map}
-use Rattle.node_closed.proofs.Paths.{inner_attributes_mapped, macro_mapped, outer_attributes_mapped}
-use Rattle.node_closed.proofs.Paths.{outer_turns_mapped}
+use Rattle.node_tree.proofs.Words.{box_map, option_map, optional_mapped, second_map, turns_mapped}
+use Rattle.node_tree.proofs.ExpressionMaps.{block_map, local_init_map, local_map, stmt_macro_map, stmt_map}
+use Rattle.node_tree.proofs.TypeMaps.{attribute_map}
+use Rattle.node_tree.proofs.Paths.{inner_attributes_mapped, macro_mapped, outer_attributes_mapped}
+use Rattle.node_tree.proofs.Paths.{outer_turns_mapped}
 
 pub attributed_mapped :
     {A : Type 0} (h : A → Tree) (a : List (Attribute A)) (p p' : Tree) → p ≡ p'

@@ -1,5 +1,5 @@
 use Rattle.reader_tree.specs.Size.{node_count}
-use Rattle.node_from_tree.proofs.made.+making.Given as goal
+use Rattle.node_tree.proofs.made.+making.Given as goal
 
 abbrev pub decreases-node : goal.decreases-node
 decreases-node l = node_count l.tree.now

@@ -1,8 +1,8 @@
 //! What makes the nodes in one.
 
-ghost use Rattle.node_closed.specs.Views.{item_view, node_view};
+ghost use Rattle.node_tree.specs.Views.{item_view, node_view};
 ghost use Rattle.node_from_bodies.specs.StatementParts.{a_statement};
-ghost use Rattle.node_from_tree.specs.Nests.{MakesNodes, MakesPatterns, MakesStatements};
+ghost use Rattle.node_tree.specs.Nests.{MakesNodes, MakesPatterns, MakesStatements};
 ghost use Rattle.node_shapes.specs.Shape.{IsShaped};
 ghost use Rattle.node_views.specs.Expressions as expressions;
 ghost use Rattle.node_views.specs.Imports as imports;
@@ -27,7 +27,8 @@ use node_items::{
 };
 use node_paths::attribute::Attribute;
 use node_patterns::Pat;
-use node_tree::{Item, Node};
+use crate::item::Item;
+use crate::node::Node;
 use proc_macro2::tree::TokenStream;
 use reader_tree::tree::Tree;
 use std::alloc::{AllocError, Global};
@@ -72,7 +73,7 @@ impl<
     }
 }
 
-#[tactic(auto, using(node_closed::proofs::Equations::node_equations))]
+#[tactic(auto, using(crate::proofs::Equations::node_equations))]
 impl<
     't,
     'a,
@@ -119,14 +120,14 @@ impl<
 }
 
 // An item, in a place of its own.
-#[tactic(auto, using(node_closed::proofs::Equations::node_equations))]
+#[tactic(auto, using(crate::proofs::Equations::node_equations))]
 fn placed(alloc: Global, item: Item) -> Result<Node, AllocError>
     ensures { IfOk result (λ x. node_view x ≡ item_view item) }
 {
     Ok(Node::Item(Box::new(alloc, item)?))
 }
 
-#[tactic(auto, using(node_closed::proofs::Equations::item_equations))]
+#[tactic(auto, using(crate::proofs::Equations::item_equations))]
 impl<
     't,
     'a,

@@ -47,14 +47,14 @@ use Rattle.node_views.specs.Paths.{last_segment, lifetime_param, lifetimes, macr
 use Rattle.node_views.specs.Paths.{more_behind, none_behind, outer, outer_attributes, output, parenthesized, path}
 use Rattle.node_views.specs.Paths.{qualified_path, return_type, segment_then, segments, some_bounds, trait_bound}
 use Rattle.node_views.specs.Paths.{trait_front, type_param_bound}
-use Rattle.node_closed.proofs.Words.{drop_mapped, is_empty_mapped, listed_mapped, option_map, optional_mapped}
-use Rattle.node_closed.proofs.Words.{punctuated_map, take_mapped}
-use Rattle.node_closed.proofs.TypeMaps.{angle_bracketed_generic_arguments_map, assoc_type_map, attribute_map}
-use Rattle.node_closed.proofs.TypeMaps.{bound_lifetimes_map, generic_argument_map, lifetime_param_map, macro_map}
-use Rattle.node_closed.proofs.TypeMaps.{meta_list_map, meta_map, meta_name_value_map}
-use Rattle.node_closed.proofs.TypeMaps.{parenthesized_generic_arguments_map, path_arguments_map, path_map}
-use Rattle.node_closed.proofs.TypeMaps.{path_segment_map, q_self_map, return_type_map, trait_bound_map}
-use Rattle.node_closed.proofs.TypeMaps.{type_param_bound_map}
+use Rattle.node_tree.proofs.Words.{drop_mapped, is_empty_mapped, listed_mapped, option_map, optional_mapped}
+use Rattle.node_tree.proofs.Words.{punctuated_map, take_mapped}
+use Rattle.node_tree.proofs.TypeMaps.{angle_bracketed_generic_arguments_map, assoc_type_map, attribute_map}
+use Rattle.node_tree.proofs.TypeMaps.{bound_lifetimes_map, generic_argument_map, lifetime_param_map, macro_map}
+use Rattle.node_tree.proofs.TypeMaps.{meta_list_map, meta_map, meta_name_value_map}
+use Rattle.node_tree.proofs.TypeMaps.{parenthesized_generic_arguments_map, path_arguments_map, path_map}
+use Rattle.node_tree.proofs.TypeMaps.{path_segment_map, q_self_map, return_type_map, trait_bound_map}
+use Rattle.node_tree.proofs.TypeMaps.{type_param_bound_map}
 
 -- the types of results
 

@@ -7,9 +7,9 @@ use Rattle.syn_grammar.specs.Tree.{Tree}
 use Rattle.node_items.specs.declared.import.ItemUse.{ItemUse}
 use Rattle.node_words.specs.Words.{◌∶◌, ◌▸◌, alternative, keyword, mark}
 use Rattle.node_views.specs.Imports.{item_use, use_top, use_tree}
-use Rattle.node_closed.proofs.ItemMaps.{item_use_map}
-use Rattle.node_closed.proofs.Generics.{visibility_mapped}
-use Rattle.node_closed.proofs.Items.{item_of_mapped}
+use Rattle.node_tree.proofs.ItemMaps.{item_use_map}
+use Rattle.node_tree.proofs.Generics.{visibility_mapped}
+use Rattle.node_tree.proofs.Items.{item_of_mapped}
 
 pub item_use_mapped :
     {A : Type 0} (h : A → Tree) (x : ItemUse A)

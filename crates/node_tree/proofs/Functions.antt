@@ -25,14 +25,14 @@ use Rattle.node_views.specs.Paths.{abi}
 use Rattle.node_views.specs.Data.{named}
 use Rattle.node_views.specs.Functions.{dots, ended, fn_arg, fn_body, inputs, receiver, receiver_form, receiver_of}
 use Rattle.node_views.specs.Functions.{safety, signature, typed, variadic}
-use Rattle.node_closed.proofs.Words.{all_listed_mapped, box_map, first_map, listed_mapped, option_map, punctuated_map}
-use Rattle.node_closed.proofs.ExpressionMaps.{block_map, pat_type_map}
-use Rattle.node_closed.proofs.ItemMaps.{fn_arg_map, receiver_kind_map, receiver_map, signature_map, variadic_map}
-use Rattle.node_closed.proofs.TypeMaps.{attribute_map}
-use Rattle.node_closed.proofs.Paths.{outer_attributes_mapped, return_type_mapped}
-use Rattle.node_closed.proofs.Generics.{where_of_mapped}
-use Rattle.node_closed.proofs.Statements.{body_mapped}
-use Rattle.node_closed.proofs.Data.{generics_of_mapped}
+use Rattle.node_tree.proofs.Words.{all_listed_mapped, box_map, first_map, listed_mapped, option_map, punctuated_map}
+use Rattle.node_tree.proofs.ExpressionMaps.{block_map, pat_type_map}
+use Rattle.node_tree.proofs.ItemMaps.{fn_arg_map, receiver_kind_map, receiver_map, signature_map, variadic_map}
+use Rattle.node_tree.proofs.TypeMaps.{attribute_map}
+use Rattle.node_tree.proofs.Paths.{outer_attributes_mapped, return_type_mapped}
+use Rattle.node_tree.proofs.Generics.{where_of_mapped}
+use Rattle.node_tree.proofs.Statements.{body_mapped}
+use Rattle.node_tree.proofs.Data.{generics_of_mapped}
 
 pub receiver_of_mapped :
     {A : Type 0} (h : A → Tree) (x : ReceiverKind A) (o : Option (Keyword 28)) (s : Keyword 35)

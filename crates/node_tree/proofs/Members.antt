@@ -49,22 +49,22 @@ use Rattle.node_views.specs.Members.{impl_item_const, impl_item_fn, impl_item_ma
 use Rattle.node_views.specs.Members.{impl_number, item_foreign_mod, item_impl, item_trait, item_trait_alias, polarity}
 use Rattle.node_views.specs.Members.{trait_form, trait_item, trait_item_const, trait_item_fn, trait_item_macro}
 use Rattle.node_views.specs.Members.{trait_item_of, trait_item_type, type_value}
-use Rattle.node_closed.proofs.Words.{first_map, option_map, optional_mapped, second_map, turns_mapped}
-use Rattle.node_closed.proofs.ExpressionMaps.{block_map}
-use Rattle.node_closed.proofs.ItemMaps.{foreign_item_fn_map, foreign_item_macro_map, foreign_item_map}
-use Rattle.node_closed.proofs.ItemMaps.{foreign_item_static_map, foreign_item_type_map, impl_item_const_map}
-use Rattle.node_closed.proofs.ItemMaps.{impl_item_fn_map, impl_item_macro_map, impl_item_map, impl_item_type_map}
-use Rattle.node_closed.proofs.ItemMaps.{item_foreign_mod_map, item_impl_map, item_trait_alias_map, item_trait_map}
-use Rattle.node_closed.proofs.ItemMaps.{trait_item_const_map, trait_item_fn_map, trait_item_macro_map, trait_item_map}
-use Rattle.node_closed.proofs.ItemMaps.{trait_item_type_map}
-use Rattle.node_closed.proofs.TypeMaps.{attribute_map, generics_map, path_map, type_map}
-use Rattle.node_closed.proofs.Paths.{any_path_mapped, bound_list_mapped, bounds_colon_mapped, inner_attributes_mapped}
-use Rattle.node_closed.proofs.Paths.{outer_attributes_mapped}
-use Rattle.node_closed.proofs.Types.{type_mapped}
-use Rattle.node_closed.proofs.Generics.{impl_generics_mapped, visibility_mapped, where_of_mapped}
-use Rattle.node_closed.proofs.Data.{generics_of_mapped, value_mapped}
-use Rattle.node_closed.proofs.Functions.{fn_body_mapped, signature_mapped}
-use Rattle.node_closed.proofs.Items.{alias_form_mapped, has_where_mapped, item_of_mapped, macro_form_mapped}
+use Rattle.node_tree.proofs.Words.{first_map, option_map, optional_mapped, second_map, turns_mapped}
+use Rattle.node_tree.proofs.ExpressionMaps.{block_map}
+use Rattle.node_tree.proofs.ItemMaps.{foreign_item_fn_map, foreign_item_macro_map, foreign_item_map}
+use Rattle.node_tree.proofs.ItemMaps.{foreign_item_static_map, foreign_item_type_map, impl_item_const_map}
+use Rattle.node_tree.proofs.ItemMaps.{impl_item_fn_map, impl_item_macro_map, impl_item_map, impl_item_type_map}
+use Rattle.node_tree.proofs.ItemMaps.{item_foreign_mod_map, item_impl_map, item_trait_alias_map, item_trait_map}
+use Rattle.node_tree.proofs.ItemMaps.{trait_item_const_map, trait_item_fn_map, trait_item_macro_map, trait_item_map}
+use Rattle.node_tree.proofs.ItemMaps.{trait_item_type_map}
+use Rattle.node_tree.proofs.TypeMaps.{attribute_map, generics_map, path_map, type_map}
+use Rattle.node_tree.proofs.Paths.{any_path_mapped, bound_list_mapped, bounds_colon_mapped, inner_attributes_mapped}
+use Rattle.node_tree.proofs.Paths.{outer_attributes_mapped}
+use Rattle.node_tree.proofs.Types.{type_mapped}
+use Rattle.node_tree.proofs.Generics.{impl_generics_mapped, visibility_mapped, where_of_mapped}
+use Rattle.node_tree.proofs.Data.{generics_of_mapped, value_mapped}
+use Rattle.node_tree.proofs.Functions.{fn_body_mapped, signature_mapped}
+use Rattle.node_tree.proofs.Items.{alias_form_mapped, has_where_mapped, item_of_mapped, macro_form_mapped}
 
 -- traits
 

@@ -75,25 +75,25 @@ use Rattle.node_views.specs.Expressions.{expr_repeat, expr_return, expr_struct, 
 use Rattle.node_views.specs.Expressions.{expr_unary, expr_unsafe, expr_while, expr_yield, field_base, field_member}
 use Rattle.node_views.specs.Expressions.{field_value, fields_then, guard, jump, label, limits_kind, limits_mark}
 use Rattle.node_views.specs.Expressions.{operands, raw_mutability, un_op, value_form}
-use Rattle.node_closed.proofs.Words.{all_listed_mapped, box_map, expressions_mapped, listed_mapped, option_map}
-use Rattle.node_closed.proofs.Words.{optional_mapped, punctuated_map, second_map, turns_mapped}
-use Rattle.node_closed.proofs.ExpressionMaps.{arm_map, expr_array_map, expr_assign_map, expr_async_map}
-use Rattle.node_closed.proofs.ExpressionMaps.{expr_await_map, expr_binary_map, expr_block_map, expr_break_map}
-use Rattle.node_closed.proofs.ExpressionMaps.{expr_call_map, expr_cast_map, expr_closure_map, expr_const_map}
-use Rattle.node_closed.proofs.ExpressionMaps.{expr_continue_map, expr_field_map, expr_for_loop_map, expr_group_map}
-use Rattle.node_closed.proofs.ExpressionMaps.{expr_if_map, expr_index_map, expr_infer_map, expr_let_map, expr_lit_map}
-use Rattle.node_closed.proofs.ExpressionMaps.{expr_loop_map, expr_macro_map, expr_map, expr_match_map}
-use Rattle.node_closed.proofs.ExpressionMaps.{expr_method_call_map, expr_paren_map, expr_path_map, expr_range_map}
-use Rattle.node_closed.proofs.ExpressionMaps.{expr_raw_addr_map, expr_reference_map, expr_repeat_map, expr_return_map}
-use Rattle.node_closed.proofs.ExpressionMaps.{expr_struct_map, expr_try_block_map, expr_try_map, expr_tuple_map}
-use Rattle.node_closed.proofs.ExpressionMaps.{expr_unary_map, expr_unsafe_map, expr_while_map, expr_yield_map}
-use Rattle.node_closed.proofs.ExpressionMaps.{field_value_map}
-use Rattle.node_closed.proofs.TypeMaps.{angle_bracketed_generic_arguments_map, bound_lifetimes_map, return_type_map}
-use Rattle.node_closed.proofs.Paths.{angle_bracketed_mapped, any_path_mapped, bound_lifetimes_mapped}
-use Rattle.node_closed.proofs.Paths.{inner_attributes_mapped, macro_mapped, outer_attributes_mapped}
-use Rattle.node_closed.proofs.Paths.{return_type_mapped}
-use Rattle.node_closed.proofs.Patterns.{held_mapped}
-use Rattle.node_closed.proofs.Statements.{attributed_mapped, block_mapped, body_mapped}
+use Rattle.node_tree.proofs.Words.{all_listed_mapped, box_map, expressions_mapped, listed_mapped, option_map}
+use Rattle.node_tree.proofs.Words.{optional_mapped, punctuated_map, second_map, turns_mapped}
+use Rattle.node_tree.proofs.ExpressionMaps.{arm_map, expr_array_map, expr_assign_map, expr_async_map}
+use Rattle.node_tree.proofs.ExpressionMaps.{expr_await_map, expr_binary_map, expr_block_map, expr_break_map}
+use Rattle.node_tree.proofs.ExpressionMaps.{expr_call_map, expr_cast_map, expr_closure_map, expr_const_map}
+use Rattle.node_tree.proofs.ExpressionMaps.{expr_continue_map, expr_field_map, expr_for_loop_map, expr_group_map}
+use Rattle.node_tree.proofs.ExpressionMaps.{expr_if_map, expr_index_map, expr_infer_map, expr_let_map, expr_lit_map}
+use Rattle.node_tree.proofs.ExpressionMaps.{expr_loop_map, expr_macro_map, expr_map, expr_match_map}
+use Rattle.node_tree.proofs.ExpressionMaps.{expr_method_call_map, expr_paren_map, expr_path_map, expr_range_map}
+use Rattle.node_tree.proofs.ExpressionMaps.{expr_raw_addr_map, expr_reference_map, expr_repeat_map, expr_return_map}
+use Rattle.node_tree.proofs.ExpressionMaps.{expr_struct_map, expr_try_block_map, expr_try_map, expr_tuple_map}
+use Rattle.node_tree.proofs.ExpressionMaps.{expr_unary_map, expr_unsafe_map, expr_while_map, expr_yield_map}
+use Rattle.node_tree.proofs.ExpressionMaps.{field_value_map}
+use Rattle.node_tree.proofs.TypeMaps.{angle_bracketed_generic_arguments_map, bound_lifetimes_map, return_type_map}
+use Rattle.node_tree.proofs.Paths.{angle_bracketed_mapped, any_path_mapped, bound_lifetimes_mapped}
+use Rattle.node_tree.proofs.Paths.{inner_attributes_mapped, macro_mapped, outer_attributes_mapped}
+use Rattle.node_tree.proofs.Paths.{return_type_mapped}
+use Rattle.node_tree.proofs.Patterns.{held_mapped}
+use Rattle.node_tree.proofs.Statements.{attributed_mapped, block_mapped, body_mapped}
 
 -- atoms
 

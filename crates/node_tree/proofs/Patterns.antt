@@ -34,14 +34,14 @@ use Rattle.node_views.specs.Patterns.{field_rest, held, in_parentheses, literal_
 use Rattle.node_views.specs.Patterns.{pat_ident, pat_lit, pat_or, pat_paren, pat_path, pat_range, pat_reference}
 use Rattle.node_views.specs.Patterns.{pat_rest, pat_slice, pat_struct, pat_tuple, pat_tuple_struct, pat_type}
 use Rattle.node_views.specs.Patterns.{pat_wild, path_pattern, range_form, rest_pattern, several, signed, subpattern}
-use Rattle.node_closed.proofs.Words.{all_listed_mapped, box_map, listed_mapped, option_map, optional_mapped}
-use Rattle.node_closed.proofs.Words.{punctuated_map, second_map}
-use Rattle.node_closed.proofs.ExpressionMaps.{field_pat_map, pat_ident_map, pat_lit_map, pat_map, pat_or_map}
-use Rattle.node_closed.proofs.ExpressionMaps.{pat_paren_map, pat_path_map, pat_range_map, pat_reference_map}
-use Rattle.node_closed.proofs.ExpressionMaps.{pat_rest_map, pat_slice_map, pat_struct_map, pat_tuple_map}
-use Rattle.node_closed.proofs.ExpressionMaps.{pat_tuple_struct_map, pat_type_map, pat_wild_map}
-use Rattle.node_closed.proofs.TypeMaps.{attribute_map}
-use Rattle.node_closed.proofs.Paths.{any_path_mapped, outer_attributes_mapped, outer_turns_mapped}
+use Rattle.node_tree.proofs.Words.{all_listed_mapped, box_map, listed_mapped, option_map, optional_mapped}
+use Rattle.node_tree.proofs.Words.{punctuated_map, second_map}
+use Rattle.node_tree.proofs.ExpressionMaps.{field_pat_map, pat_ident_map, pat_lit_map, pat_map, pat_or_map}
+use Rattle.node_tree.proofs.ExpressionMaps.{pat_paren_map, pat_path_map, pat_range_map, pat_reference_map}
+use Rattle.node_tree.proofs.ExpressionMaps.{pat_rest_map, pat_slice_map, pat_struct_map, pat_tuple_map}
+use Rattle.node_tree.proofs.ExpressionMaps.{pat_tuple_struct_map, pat_type_map, pat_wild_map}
+use Rattle.node_tree.proofs.TypeMaps.{attribute_map}
+use Rattle.node_tree.proofs.Paths.{any_path_mapped, outer_attributes_mapped, outer_turns_mapped}
 
 pub behind_attributes_mapped :
     {A : Type 0} (h : A → Tree) (a : List (Attribute A)) (p p' : Tree) → p ≡ p'

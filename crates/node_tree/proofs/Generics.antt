@@ -26,12 +26,12 @@ use Rattle.node_views.specs.Generics.{angled_params, are_written, clause_part, c
 use Rattle.node_views.specs.Generics.{generic_param, generics, impl_generics, lone_word, predicate_type, public}
 use Rattle.node_views.specs.Generics.{restriction, type_default, type_param, visibility, where_clause, where_of}
 use Rattle.node_views.specs.Generics.{where_predicate}
-use Rattle.node_closed.proofs.Words.{is_empty_mapped, listed_mapped, option_map, optional_mapped}
-use Rattle.node_closed.proofs.TypeMaps.{bound_lifetimes_map, const_param_map, generic_param_map, generics_map}
-use Rattle.node_closed.proofs.TypeMaps.{predicate_type_map, type_param_map, vis_restricted_map, visibility_map}
-use Rattle.node_closed.proofs.TypeMaps.{where_clause_map, where_predicate_map}
-use Rattle.node_closed.proofs.Paths.{bound_lifetimes_mapped, bound_list_mapped, bounds_colon_mapped}
-use Rattle.node_closed.proofs.Paths.{lifetime_param_mapped, outer_attributes_mapped, path_mapped}
+use Rattle.node_tree.proofs.Words.{is_empty_mapped, listed_mapped, option_map, optional_mapped}
+use Rattle.node_tree.proofs.TypeMaps.{bound_lifetimes_map, const_param_map, generic_param_map, generics_map}
+use Rattle.node_tree.proofs.TypeMaps.{predicate_type_map, type_param_map, vis_restricted_map, visibility_map}
+use Rattle.node_tree.proofs.TypeMaps.{where_clause_map, where_predicate_map}
+use Rattle.node_tree.proofs.Paths.{bound_lifetimes_mapped, bound_list_mapped, bounds_colon_mapped}
+use Rattle.node_tree.proofs.Paths.{lifetime_param_mapped, outer_attributes_mapped, path_mapped}
 
 pub type_default_mapped :
     {A : Type 0} (h : A → Tree) (m : Option (Punctuation 13 1)) (x : Option A)

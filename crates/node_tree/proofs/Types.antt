@@ -24,12 +24,12 @@ use Rattle.node_views.specs.Paths.{abi, bound_lifetimes}
 use Rattle.node_views.specs.Types.{argument_name, fn_ptr_arg, type_, type_array, type_fn_ptr, type_impl_trait}
 use Rattle.node_views.specs.Types.{type_paren, type_path, type_ptr, type_reference, type_slice, type_trait_object}
 use Rattle.node_views.specs.Types.{type_tuple, whole_type}
-use Rattle.node_closed.proofs.Words.{listed_mapped, optional_mapped}
-use Rattle.node_closed.proofs.TypeMaps.{bound_lifetimes_map, fn_ptr_arg_map, type_array_map, type_fn_ptr_map}
-use Rattle.node_closed.proofs.TypeMaps.{type_impl_trait_map, type_map, type_paren_map, type_path_map, type_ptr_map}
-use Rattle.node_closed.proofs.TypeMaps.{type_reference_map, type_slice_map, type_trait_object_map, type_tuple_map}
-use Rattle.node_closed.proofs.Paths.{any_path_mapped, bound_lifetimes_mapped, outer_attributes_mapped}
-use Rattle.node_closed.proofs.Paths.{return_type_mapped, some_bounds_mapped}
+use Rattle.node_tree.proofs.Words.{listed_mapped, optional_mapped}
+use Rattle.node_tree.proofs.TypeMaps.{bound_lifetimes_map, fn_ptr_arg_map, type_array_map, type_fn_ptr_map}
+use Rattle.node_tree.proofs.TypeMaps.{type_impl_trait_map, type_map, type_paren_map, type_path_map, type_ptr_map}
+use Rattle.node_tree.proofs.TypeMaps.{type_reference_map, type_slice_map, type_trait_object_map, type_tuple_map}
+use Rattle.node_tree.proofs.Paths.{any_path_mapped, bound_lifetimes_mapped, outer_attributes_mapped}
+use Rattle.node_tree.proofs.Paths.{return_type_mapped, some_bounds_mapped}
 
 pub type_slice_mapped :
     {A : Type 0} (h : A → Tree) (x : TypeSlice A)

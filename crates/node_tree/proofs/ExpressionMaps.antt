@@ -67,9 +67,9 @@ use Rattle.node_patterns.specs.declared.Pat.{Pat}
 use mathlib.Core.Logic.{inl, inr}
 use Rattle.syn_kinds.specs.declared.punctuation.Punctuation.{Punctuation}
 use Rattle.node_tree.specs.declared.item.Item.TheShapes as shapes
-use Rattle.node_closed.proofs.Words.{either, box_map, first_map, second_map, option_map, vec_map, punctuated_map}
-use Rattle.node_closed.proofs.TypeMaps.{angle_bracketed_generic_arguments_map, attribute_map, bound_lifetimes_map}
-use Rattle.node_closed.proofs.TypeMaps.{macro_map, path_map, q_self_map, return_type_map}
+use Rattle.node_tree.proofs.Words.{either, box_map, first_map, second_map, option_map, vec_map, punctuated_map}
+use Rattle.node_tree.proofs.TypeMaps.{angle_bracketed_generic_arguments_map, attribute_map, bound_lifetimes_map}
+use Rattle.node_tree.proofs.TypeMaps.{macro_map, path_map, q_self_map, return_type_map}
 
 abbrev pub field_pat_map : {A B : Type 0} → (A → B) → FieldPat A → FieldPat B
 field_pat_map h x =

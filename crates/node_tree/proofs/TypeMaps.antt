@@ -59,7 +59,7 @@ use mathlib.Core.Logic.{inl, inr}
 use Rattle.syn_kinds.specs.declared.keyword.Keyword.{Keyword}
 use Rattle.syn_kinds.specs.declared.lifetime.Lifetime.{Lifetime}
 use Rattle.syn_kinds.specs.declared.punctuation.Punctuation.{Punctuation}
-use Rattle.node_closed.proofs.Words.{either, box_map, first_map, second_map, option_map, vec_map, punctuated_map}
+use Rattle.node_tree.proofs.Words.{either, box_map, first_map, second_map, option_map, vec_map, punctuated_map}
 
 abbrev pub assoc_type_map : {A B : Type 0} → (A → B) → AssocType A → AssocType B
 assoc_type_map h x = record { ident = x.ident; eq_token = x.eq_token; ty = h x.ty }

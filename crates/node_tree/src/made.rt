@@ -1,6 +1,6 @@
 //! The node that a tree is, and the item.
 
-ghost use Rattle.node_closed.specs.Views.{item_view, node_view};
+ghost use Rattle.node_tree.specs.Views.{item_view, node_view};
 ghost use Rattle.node_from.specs.Whats.{IsWhat, made};
 ghost use Rattle.node_from_bodies.specs.StatementParts.{a_statement};
 ghost use Rattle.node_shapes.specs.Shape.{IsShaped};
@@ -14,7 +14,7 @@ ghost use Rattle.syn_grammar.specs.Kept.{kept};
 ghost use Rattle.syn_grammar.specs.Kind as k;
 
 use crate::below::Below;
-use crate::metas::meta;
+use node_from_parts::metas::meta;
 use node_expressions::expr::Expr;
 use node_expressions::statement::Stmt;
 use node_from::types::type_;
@@ -28,7 +28,7 @@ use node_from_patterns::dispatch as from_patterns;
 use node_from_statements::statements::block_stmt;
 use node_paths::attribute::Attribute;
 use node_patterns::Pat;
-use node_tree::Node;
+use crate::node::Node;
 use node_types::Type;
 use reader_table::kind::Plus;
 use reader_tree::tree::Tree;
@@ -36,7 +36,7 @@ use std::alloc::{AllocError, Global};
 use syn_kinds::underscore::Underscore;
 
 // The node of a type.
-#[tactic(auto, using(node_closed::proofs::Equations::node_equations))]
+#[tactic(auto, using(crate::proofs::Equations::node_equations))]
 fn of_type(alloc: Global, ty: Type<Node>) -> Result<Node, AllocError>
     ensures { IfOk result (λ x. node_view x ≡ types.type_ node_view ty) }
 {
@@ -44,7 +44,7 @@ fn of_type(alloc: Global, ty: Type<Node>) -> Result<Node, AllocError>
 }
 
 // The node that a tree is, by what makes those in it.
-#[tactic(auto, using(node_closed::proofs::Equations::node_equations))]
+#[tactic(auto, using(crate::proofs::Equations::node_equations))]
 fn node_by<R: ItemMaker<Node>>(below: &R, what: What, tree: &Tree<'_>) -> Result<Node, AllocError>
     requires ready { R.ready below.now }
     requires view { R.view ≡ node_view }

@@ -31,17 +31,17 @@ use Rattle.node_views.specs.Items.{alias_form, by_unsafety, const_form, definiti
 use Rattle.node_views.specs.Items.{item_enum, item_extern_crate, item_fn, item_macro, item_mod, item_of, item_static}
 use Rattle.node_views.specs.Items.{item_struct, item_type, item_union, items, macro_end, macro_form, macro_name}
 use Rattle.node_views.specs.Items.{module_end, no_bounds, private, renamed, static_form, type_end, unsafety}
-use Rattle.node_closed.proofs.Words.{option_map, second_map, turns_mapped, vec_map}
-use Rattle.node_closed.proofs.ItemMaps.{item_const_map, item_enum_map, item_extern_crate_map, item_fn_map}
-use Rattle.node_closed.proofs.ItemMaps.{item_macro_map, item_mod_map, item_static_map, item_struct_map, item_type_map}
-use Rattle.node_closed.proofs.ItemMaps.{item_union_map}
-use Rattle.node_closed.proofs.TypeMaps.{attribute_map, generics_map, macro_map, where_clause_map}
-use Rattle.node_closed.proofs.Paths.{inner_attributes_mapped, outer_attributes_mapped, path_mapped}
-use Rattle.node_closed.proofs.Types.{type_mapped}
-use Rattle.node_closed.proofs.Generics.{visibility_mapped, where_of_mapped}
-use Rattle.node_closed.proofs.Data.{enum_form_mapped, generics_of_mapped, struct_form_mapped, union_form_mapped}
-use Rattle.node_closed.proofs.Data.{value_mapped}
-use Rattle.node_closed.proofs.Functions.{fn_body_mapped, signature_mapped}
+use Rattle.node_tree.proofs.Words.{option_map, second_map, turns_mapped, vec_map}
+use Rattle.node_tree.proofs.ItemMaps.{item_const_map, item_enum_map, item_extern_crate_map, item_fn_map}
+use Rattle.node_tree.proofs.ItemMaps.{item_macro_map, item_mod_map, item_static_map, item_struct_map, item_type_map}
+use Rattle.node_tree.proofs.ItemMaps.{item_union_map}
+use Rattle.node_tree.proofs.TypeMaps.{attribute_map, generics_map, macro_map, where_clause_map}
+use Rattle.node_tree.proofs.Paths.{inner_attributes_mapped, outer_attributes_mapped, path_mapped}
+use Rattle.node_tree.proofs.Types.{type_mapped}
+use Rattle.node_tree.proofs.Generics.{visibility_mapped, where_of_mapped}
+use Rattle.node_tree.proofs.Data.{enum_form_mapped, generics_of_mapped, struct_form_mapped, union_form_mapped}
+use Rattle.node_tree.proofs.Data.{value_mapped}
+use Rattle.node_tree.proofs.Functions.{fn_body_mapped, signature_mapped}
 
 pub item_of_mapped :
     {A : Type 0} (h : A → Tree) (a : List (Attribute A)) (p p' : Tree) → p ≡ p' → (q q' : Tree) → q ≡ q'

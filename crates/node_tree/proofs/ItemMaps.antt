@@ -54,10 +54,10 @@ use mathlib.Core.Logic.{inl, inr}
 use Rattle.syn_kinds.specs.declared.keyword.Keyword.{Keyword}
 use Rattle.syn_kinds.specs.declared.lifetime.Lifetime.{Lifetime}
 use Rattle.syn_kinds.specs.declared.punctuation.Punctuation.{Punctuation}
-use Rattle.node_closed.proofs.Words.{either, box_map, first_map, second_map, option_map, vec_map, punctuated_map}
-use Rattle.node_closed.proofs.ExpressionMaps.{block_map, pat_type_map}
-use Rattle.node_closed.proofs.TypeMaps.{attribute_map, generics_map, macro_map, path_map, return_type_map, type_map}
-use Rattle.node_closed.proofs.TypeMaps.{type_param_bound_map, visibility_map}
+use Rattle.node_tree.proofs.Words.{either, box_map, first_map, second_map, option_map, vec_map, punctuated_map}
+use Rattle.node_tree.proofs.ExpressionMaps.{block_map, pat_type_map}
+use Rattle.node_tree.proofs.TypeMaps.{attribute_map, generics_map, macro_map, path_map, return_type_map, type_map}
+use Rattle.node_tree.proofs.TypeMaps.{type_param_bound_map, visibility_map}
 
 abbrev pub field_map : {A B : Type 0} → (A → B) → Field A → Field B
 field_map h x =

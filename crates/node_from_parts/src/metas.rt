@@ -15,7 +15,7 @@ ghost use Rattle.syn_grammar.specs.Tree as t;
 use node_from::attributes::lone_path;
 use node_from::segments::path;
 use node_from::{Reader, What};
-use node_from_parts::macros::delimited;
+use crate::macros::delimited;
 use node_paths::attribute::{Meta, MetaList, MetaNameValue};
 use node_paths::path::Path;
 use node_take as take;

@@ -18,7 +18,7 @@ use Rattle.node_views.specs.Statements.{block_stmt}
 use Rattle.node_from.specs.Whats.{IsWhat, made}
 use Rattle.node_from.specs.declared.What.{What}
 use Rattle.node_from_bodies.specs.StatementParts.{a_statement}
-use Rattle.node_closed.specs.Views.{node_view}
+use Rattle.node_tree.specs.Views.{node_view}
 
 -- of each tree below the bound that is what is to be made, its node
 pub record MakesNodes (bound : ℕ) (pre : Global → What → Bor Tree → Type 0)
