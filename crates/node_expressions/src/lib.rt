@@ -16,6 +16,7 @@
 //! - `parse_alone`, `parse_operands` (private): forms of expressions, read from a stream.
 //! - `placeholder` (private): an expression where none is known yet.
 //! - `statement`: statements.
+//! - `to_tokens` (private): what is printed of them.
 #![tactic(auto)]
 
 pub mod atom;
@@ -32,6 +33,7 @@ mod parse_alone;
 mod parse_operands;
 mod placeholder;
 pub mod statement;
+mod to_tokens;
 
 pub use atom::{
     ExprArray, ExprGroup, ExprInfer, ExprLit, ExprMacro, ExprParen, ExprPath, ExprRepeat,

@@ -12,10 +12,11 @@ ghost use Rattle.syn_grammar.specs.Kind as k;
 ghost use Rattle.syn_grammar.specs.Name as n;
 ghost use Rattle.syn_grammar.specs.Tree as t;
 
-use node_from::attributes::lone_path;
-use node_from::segments::path;
-use node_from::{Reader, What};
 use crate::macros::delimited;
+use node_from::Reader;
+use node_from::attributes::lone_path;
+use node_from::exprs::expression;
+use node_from::segments::path;
 use node_paths::attribute::{Meta, MetaList, MetaNameValue};
 use node_paths::path::Path;
 use node_take as take;
@@ -24,6 +25,7 @@ use reader_tree::tree::Tree;
 use std::alloc::AllocError;
 
 // What is named in front: a path, or `unsafe` alone.
+#[tactic(auto, using(node_from::proofs::Styles::unsafe_word), unfolding(syn_grammar::specs::Table::table, syn_grammar::specs::Kept::held, syn_kinds::specs::Table::marks, syn_kinds::specs::Table::sign, syn_kinds::specs::Table::word))]
 fn named<E: Drop, R: Reader<E>>(below: &R, tree: &Tree<'_>) -> Result<Path<E>, AllocError>
     requires ready { R.ready below.now }
     requires shaped { IsShaped tree.now meta_front }
@@ -37,15 +39,17 @@ fn named<E: Drop, R: Reader<E>>(below: &R, tree: &Tree<'_>) -> Result<Path<E>, A
 }
 
 // The expression behind `=`.
+#[tactic(auto, using(node_take::proofs::Takes::shaped_never), unfolding(syn_grammar::specs::Table::table, syn_grammar::specs::Kept::held, syn_kinds::specs::Table::marks, syn_kinds::specs::Table::sign, syn_kinds::specs::Table::word))]
 fn value<E: Drop, R: Reader<E>>(below: &R, tree: &Tree<'_>) -> Result<E, AllocError>
     requires ready { R.ready below.now }
     requires shaped { IsShaped tree.now behind_equals }
     requires fewer { node_count tree.now ≤ R.bound below.now }
     ensures { IfOk result (λ x. t.Second (t.Called n.the_value (words.expression (R.view x))) ≡ kept tree.now) }
 {
-    let (_, called) = take::alternative(1, tree);
-    let form = take::whole(take::node(Kind::Expression(Position::Plain), take::called(called)));
-    Ok(below.node(What::Form, form)?)
+    match take::alternative(1, tree) {
+        (0, _) => unreachable!(),
+        (_, called) => expression(below, Position::Plain, take::called(called)),
+    }
 }
 
 /// What an attribute holds: a path, a path and a group of tokens, or a path, `=` and an expression.
@@ -53,6 +57,7 @@ fn value<E: Drop, R: Reader<E>>(below: &R, tree: &Tree<'_>) -> Result<E, AllocEr
 /// # Errors
 ///
 /// Where there is no memory for it.
+#[tactic(auto, using(node_from::proofs::Styles::unsafe_front), unfolding(syn_grammar::specs::Table::table, syn_grammar::specs::Kept::held, syn_kinds::specs::Table::marks, syn_kinds::specs::Table::sign, syn_kinds::specs::Table::word))]
 pub fn meta<E: Drop, R: Reader<E>>(below: &R, tree: &Tree<'_>) -> Result<Meta<E>, AllocError>
     requires ready { R.ready below.now }
     requires shaped { IsShaped tree.now (g.ref k.Meta) }

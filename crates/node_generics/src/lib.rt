@@ -7,6 +7,7 @@
 //! - `clause`: the conditions behind `where`.
 //! - `parse` (private): all these, read from a stream.
 //! - `visibility`: who may name an item.
+//! - `to_tokens` (private): what is printed of them.
 #![tactic(auto)]
 
 ghost use Rattle.std.specs.Prelude.{[], ◌≡◌, None};
@@ -16,6 +17,7 @@ pub mod clause;
 mod convert;
 pub mod param;
 mod parse;
+mod to_tokens;
 pub mod visibility;
 
 pub use clause::{PredicateLifetime, PredicateType, WhereClause, WherePredicate};

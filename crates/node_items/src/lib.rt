@@ -22,6 +22,7 @@
 //! - `modifiers`: what may stand in front of an item.
 //! - `file`: files.
 //! - `parse`, `parse_members` (private): items, and what stands in them, read from a stream.
+//! - `to_tokens` (private): what is printed of them.
 #![tactic(auto)]
 
 pub mod alias;
@@ -42,6 +43,7 @@ pub mod module;
 mod parse;
 mod parse_members;
 mod place;
+mod to_tokens;
 pub mod traits;
 pub mod value;
 

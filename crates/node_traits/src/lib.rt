@@ -4,14 +4,13 @@
 //! all of the types, with the one that takes the place of `E`.
 #![tactic(auto)]
 
-ghost use Rattle.proc_macro2.specs.Token.{plain};
-ghost use Rattle.std.specs.Prelude.{◌++◌, ◌≡◌, IfErr, IfOk, OnOk};
+ghost use Rattle.proc_macro2.specs.Token.{Spanned};
+ghost use Rattle.std.specs.Prelude.{◌≡◌, IfErr, IfOk, List, OnOk};
 ghost use Rattle.syn_error.specs.Faults.{IsSyntax};
 ghost use Rattle.syn_error.specs.Front.{Keeps};
 ghost use Rattle.syn_grammar.specs.Kind.{Kind as GivenKind};
-ghost use Rattle.syn_grammar.specs.Normal.{normal};
 ghost use Rattle.syn_grammar.specs.Read.{IsRead, NoneRead};
-ghost use Rattle.syn_grammar.specs.Tree.{Tree as GivenTree, flat};
+ghost use Rattle.syn_grammar.specs.Tree.{Tree as GivenTree};
 ghost use Rattle.syn_input.specs.Input.{IsOnward, left};
 
 use proc_macro2::tree::TokenStream;
@@ -42,8 +41,8 @@ pub trait Reads<T> {
 
 /// What prints values of a type.
 pub trait Prints<T> {
-    /// What a value is as a tree that a syntax tree holds.
-    ghost view: { T → GivenTree };
+    /// A print of the value makes of the first tokens the second ones.
+    ghost puts: { T → List Spanned → List Spanned → Type 0 };
 
     /// Adds the tokens of the value in normal form at the end. Each stands where the value has it; what is filled in
     /// stands at the call site.
@@ -53,6 +52,6 @@ pub trait Prints<T> {
     /// Where there is no memory for it. The old tokens stand in front then too, perhaps with some of the value's
     /// behind them.
     fn print(value: &T, tokens: &mut TokenStream) -> Result<(), AllocError>
-        ensures put { OnOk result (plain tokens.new ≡ plain tokens.old ++ flat (normal (view value.now))) }
+        ensures put { OnOk result (puts value.now tokens.old tokens.new) }
         ensures keeps { Keeps tokens.old tokens.new };
 }

@@ -6,12 +6,14 @@
 //! - `kinds`: each kind of type.
 //! - `function`: function pointers.
 //! - `parse` (private): types that are read from a stream.
+//! - `to_tokens` (private): what is printed of them.
 #![tactic(auto)]
 
 mod convert;
 pub mod function;
 pub mod kinds;
 mod parse;
+mod to_tokens;
 
 pub use function::{FnPtrArg, TypeFnPtr};
 pub use kinds::{

@@ -1,0 +1,40 @@
+//! What is printed of nodes, and of what nodes stand in.
+
+ghost use Rattle.node_print.specs.Puts.{PutsNormal};
+ghost use Rattle.std.specs.Prelude.{◌≡◌, IfOk};
+ghost use Rattle.syn_grammar.specs.Tree.{Tree as GivenTree};
+
+use crate::node::Node;
+use node_print::print_normal;
+use node_traits::Prints;
+use proc_macro2::tree::TokenStream;
+use reader_tree::arena::Arena;
+use reader_tree::tree::Tree;
+use std::alloc::AllocError;
+
+/// What makes trees of the grammar of values of a type.
+pub(crate) trait Trees<T> {
+    /// What a value is as a tree that a syntax tree holds.
+    ghost view: { T → GivenTree };
+
+    /// The tree of a value, in an arena.
+    ///
+    /// # Errors
+    ///
+    /// Where there is no memory for it.
+    fn tree<'a>(value: &'a T, arena: &'a Arena) -> Result<Tree<'a>, AllocError>
+        ensures { IfOk result (λ x. x ≡ view value.now) };
+}
+
+impl<T> Prints<T> for Node
+where
+    Node: Trees<T>,
+{
+    ghost puts = { PutsNormal ⟦<Node as Trees<T>>⟧.view };
+
+    fn print(value: &T, tokens: &mut TokenStream) -> Result<(), AllocError> {
+        let arena = Arena::new(tokens.allocator());
+        let tree = <Node as Trees<T>>::tree(value, &arena)?;
+        print_normal(&arena, &tree, tokens)
+    }
+}
