@@ -48,7 +48,7 @@ fn value<E: Drop, R: Reader<E>>(below: &R, tree: &Tree<'_>) -> Result<E, AllocEr
 {
     match take::alternative(1, tree) {
         (0, _) => unreachable!(),
-        (_, called) => expression(below, Position::Plain, take::called(called)),
+        (_, called) => Ok(expression(below, Position::Plain, take::called(called))?),
     }
 }
 

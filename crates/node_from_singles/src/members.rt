@@ -38,7 +38,11 @@ pub fn one_trait_const<E: Drop, R: Reader<E>>(
     requires fewer { node_count tree.now ≤ R.bound below.now }
     ensures { IfOk result (λ x. singles.one_trait_const R.view x ≡ kept tree.now) }
 {
-    let (front, _, form) = member_parts(below, Place::InTrait, take::node(Kind::OneConst(Place::InTrait), tree))?;
+    let (front, _, form) = member_parts(
+        below,
+        Place::InTrait,
+        take::node(Kind::OneConst(Place::InTrait), tree),
+    )?;
     trait_item_const(below, front.attrs, form)
 }
 
@@ -56,7 +60,11 @@ pub fn one_trait_fn<E: Drop, R: Maker<E>>(
     requires fewer { node_count tree.now ≤ R.bound below.now }
     ensures { IfOk result (λ x. singles.one_trait_fn R.view x ≡ kept tree.now) }
 {
-    let (front, _, form) = member_parts(below, Place::InTrait, take::node(Kind::OneFunction(Place::InTrait), tree))?;
+    let (front, _, form) = member_parts(
+        below,
+        Place::InTrait,
+        take::node(Kind::OneFunction(Place::InTrait), tree),
+    )?;
     trait_item_fn(below, front.attrs, form)
 }
 
@@ -74,7 +82,11 @@ pub fn one_trait_type<E: Drop, R: Reader<E>>(
     requires fewer { node_count tree.now ≤ R.bound below.now }
     ensures { IfOk result (λ x. singles.one_trait_type R.view x ≡ kept tree.now) }
 {
-    let (front, _, form) = member_parts(below, Place::InTrait, take::node(Kind::OneTypeAlias(Place::InTrait), tree))?;
+    let (front, _, form) = member_parts(
+        below,
+        Place::InTrait,
+        take::node(Kind::OneTypeAlias(Place::InTrait), tree),
+    )?;
     trait_item_type(below, front.attrs, form)
 }
 
@@ -92,7 +104,11 @@ pub fn one_impl_const<E: Drop, R: Reader<E>>(
     requires fewer { node_count tree.now ≤ R.bound below.now }
     ensures { IfOk result (λ x. singles.one_impl_const R.view x ≡ kept tree.now) }
 {
-    let (front, word, form) = member_parts(below, Place::InImpl, take::node(Kind::OneConst(Place::InImpl), tree))?;
+    let (front, word, form) = member_parts(
+        below,
+        Place::InImpl,
+        take::node(Kind::OneConst(Place::InImpl), tree),
+    )?;
     impl_item_const(below, front, defaultness(word), form)
 }
 
@@ -110,7 +126,11 @@ pub fn one_impl_fn<E: Drop, R: Maker<E>>(
     requires fewer { node_count tree.now ≤ R.bound below.now }
     ensures { IfOk result (λ x. singles.one_impl_fn R.view x ≡ kept tree.now) }
 {
-    let (front, word, form) = member_parts(below, Place::InImpl, take::node(Kind::OneFunction(Place::InImpl), tree))?;
+    let (front, word, form) = member_parts(
+        below,
+        Place::InImpl,
+        take::node(Kind::OneFunction(Place::InImpl), tree),
+    )?;
     impl_item_fn(below, front, defaultness(word), form)
 }
 
@@ -128,7 +148,11 @@ pub fn one_impl_type<E: Drop, R: Reader<E>>(
     requires fewer { node_count tree.now ≤ R.bound below.now }
     ensures { IfOk result (λ x. singles.one_impl_type R.view x ≡ kept tree.now) }
 {
-    let (front, word, form) = member_parts(below, Place::InImpl, take::node(Kind::OneTypeAlias(Place::InImpl), tree))?;
+    let (front, word, form) = member_parts(
+        below,
+        Place::InImpl,
+        take::node(Kind::OneTypeAlias(Place::InImpl), tree),
+    )?;
     impl_item_type(below, front, defaultness(word), form)
 }
 
@@ -146,7 +170,11 @@ pub fn one_foreign_fn<E: Drop, R: Reader<E>>(
     requires fewer { node_count tree.now ≤ R.bound below.now }
     ensures { IfOk result (λ x. singles.one_foreign_fn R.view x ≡ kept tree.now) }
 {
-    let (front, _, form) = member_parts(below, Place::InForeign, take::node(Kind::OneFunction(Place::InForeign), tree))?;
+    let (front, _, form) = member_parts(
+        below,
+        Place::InForeign,
+        take::node(Kind::OneFunction(Place::InForeign), tree),
+    )?;
     foreign_item_fn(below, front, form)
 }
 
@@ -164,7 +192,11 @@ pub fn one_foreign_type<E: Drop, R: Reader<E>>(
     requires fewer { node_count tree.now ≤ R.bound below.now }
     ensures { IfOk result (λ x. singles.one_foreign_type R.view x ≡ kept tree.now) }
 {
-    let (front, _, form) = member_parts(below, Place::InForeign, take::node(Kind::OneTypeAlias(Place::InForeign), tree))?;
+    let (front, _, form) = member_parts(
+        below,
+        Place::InForeign,
+        take::node(Kind::OneTypeAlias(Place::InForeign), tree),
+    )?;
     foreign_item_type(below, front, form)
 }
 

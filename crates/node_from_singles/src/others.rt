@@ -29,7 +29,7 @@ use syn_leaf::member::Index;
 /// # Errors
 ///
 /// Where there is no memory for it.
-#[tactic(auto, using(crate::proofs::Others::params), unfolding(syn_grammar::specs::Table::table, syn_grammar::specs::Kept::held))]
+#[tactic(auto, unfolding(syn_grammar::specs::Table::table, syn_grammar::specs::Kept::held))]
 pub fn one_fn_arg<E: Drop, R: Reader<E>>(below: &R, tree: &Tree<'_>) -> Result<FnArg<E>, AllocError>
     requires ready { R.ready below.now }
     requires shaped { IsShaped tree.now (g.ref k.FnArg) }

@@ -1,6 +1,6 @@
 //! What stands in front of an item that was read by itself.
 
-ghost use Rattle.node_from_singles.specs.Parts.{item_parts, item_tree, member_parts, member_tree, one_member};
+ghost use Rattle.node_from_singles.specs.Parts.{item_tree, member_tree, one_member};
 ghost use Rattle.node_shapes.specs.Shape.{IsShaped};
 ghost use Rattle.node_views.specs.Generics.{visibility};
 ghost use Rattle.node_views.specs.Paths.{inner_of, outer_attributes};
@@ -24,7 +24,6 @@ use reader_tree::tree::Tree;
 use std::alloc::AllocError;
 
 /// Of an item that was read by itself, which is kept or refused, what is kept.
-#[tactic(auto, using(crate::proofs::Alone::kept_alone))]
 pub fn kept<'t, 'a>(tree: &'t Tree<'a>) -> &'t Tree<'a>
     requires { ((v : GivenTree → g.Verdict) × (a : g.Gram) × IsShaped tree.now (g.judged (λ x. strictly (v x)) a)) }
     ensures { tree.now ≡ t.First result.now }

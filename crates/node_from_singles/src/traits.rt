@@ -48,7 +48,10 @@ fn either<E: Drop, R: Maker<E>>(below: &R, own: &Tree<'_>) -> Result<Traits<E>, 
 /// # Errors
 ///
 /// Where there is no memory for it.
-pub fn one_trait<E: Drop, R: Maker<E>>(below: &R, tree: &Tree<'_>) -> Result<ItemTrait<E>, AllocError>
+pub fn one_trait<E: Drop, R: Maker<E>>(
+    below: &R,
+    tree: &Tree<'_>,
+) -> Result<ItemTrait<E>, AllocError>
     requires ready { R.ready below.now }
     requires shaped { IsShaped tree.now (g.ref k.ItemTrait) }
     requires fewer { node_count tree.now ≤ R.bound below.now }

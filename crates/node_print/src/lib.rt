@@ -1,24 +1,23 @@
 //! Trees of the grammar that are printed in normal form.
 #![tactic(auto)]
 
-ghost use Rattle.proc_macro2.specs.Token.{plain};
-ghost use Rattle.std.specs.Prelude.{◌++◌, ◌≡◌, OnOk, true};
+ghost use Rattle.node_print.specs.Puts.{Puts};
+ghost use Rattle.std.specs.Prelude.{OnOk};
 ghost use Rattle.syn_error.specs.Front.{Keeps};
 ghost use Rattle.syn_grammar.specs.Normal as n;
-ghost use Rattle.syn_grammar.specs.Tree.{flat};
-ghost use Rattle.syn_tokens.specs.Nests.{are_trees};
 
 use proc_macro2::tree::TokenStream;
 use reader_tree::arena::Arena;
 use reader_tree::tree::Tree;
 use std::alloc::AllocError;
 use syn_tokens::tokens::stream_with;
+use writer_normal::fault::Fault;
 use writer_normal::normal::normal;
 use writer_read::as_read::put_as_read;
 
 /// Adds the tokens of a tree's normal form at the end, each where it was read. What was added, and what was made
 /// without a place, stands at the call site. Where these are the tokens of no stream, as those of a literal that begins
-/// with a minus, what can be made of them is added.
+/// with a minus, what can be made of them is added. A tree whose normal form no tree can hold is added as it is.
 ///
 /// # Errors
 ///
@@ -29,12 +28,14 @@ pub fn print_normal<'a>(
     tree: &Tree<'a>,
     tokens: &mut TokenStream,
 ) -> Result<(), AllocError>
-    ensures put { OnOk result (are_trees (flat (n.normal tree.now)) ≡ true
-        → plain tokens.new ≡ plain tokens.old ++ flat (n.normal tree.now)) }
+    ensures put { OnOk result (Puts (n.normal tree.now) tokens.old tokens.new) }
     ensures keeps { Keeps tokens.old tokens.new }
 {
-    let made = normal(arena, tree)?;
     let mut pieces = Vec::new(arena.alloc());
-    put_as_read(&made, &mut pieces)?;
+    match normal(arena, tree) {
+        Ok(made) => put_as_read(&made, &mut pieces)?,
+        Err(Fault::Separators) => put_as_read(tree, &mut pieces)?,
+        Err(Fault::Memory) => return Err(AllocError),
+    }
     tokens.push_stream(stream_with(tokens.allocator(), pieces.as_slice())?)
 }

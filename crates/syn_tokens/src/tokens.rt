@@ -170,10 +170,12 @@ impl Nest {
     }
 
     // Closes the innermost group, which was open at the end.
-    fn end(&mut self, outer: Outer) -> Result<(), AllocError> {
+    fn end(&mut self, outer: Outer) -> Result<(), AllocError>
+        ensures { self.new.outer ≡ self.old.outer }
+    {
         let inside = mem::replace(&mut self.inside, outer.before);
         let group = group_at(outer.delimiter, outer.span, inside);
-        self.put(TokenTree::Group(group))
+        self.inside.push_tree(TokenTree::Group(group))
     }
 
     // Puts a token, if it may stand there.
