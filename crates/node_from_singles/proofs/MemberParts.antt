@@ -11,11 +11,12 @@ use Rattle.syn_grammar.specs.Name.{Part, same_part, the_default, the_item, the_s
 use Rattle.syn_grammar.specs.Part.{choice, found, has, is_some, or_else, or_nil, the}
 use Rattle.syn_grammar.specs.Tree as t
 use Rattle.syn_grammar.specs.Tree.{Tree}
-use Rattle.syn_grammar.specs.Verdicts.{form_in, is_public, item_verdict, marked}
+use Rattle.syn_grammar.specs.Verdicts.{form_in, is_public, marked}
 use Rattle.node_shapes.specs.Shape.{IsShaped}
 use Rattle.node_from_items.proofs.Found.{found_behind, found_called, found_node, found_other}
 use Rattle.node_from_items.proofs.TraitForms.{maybe_other}
 use Rattle.node_from_items.proofs.Verdicts.{the_visibility_of}
+use Rattle.node_from_items.specs.Members.{optional_default}
 use Rattle.node_from_singles.proofs.Alone.{node_itself, public_kept, strict_keep}
 use Rattle.node_from_singles.specs.Parts.{member_parts, member_tree, one_member, static_parts}
 
@@ -45,6 +46,11 @@ default_other k.InFile n t.Nil e h = refl
 default_other k.InFile n _ e h = absurd h
 default_other k.InForeign n t.Nil e h = refl
 default_other k.InForeign n _ e h = absurd h
+
+pub default_shaped : (d : Tree) → IsShaped d (default_there k.InImpl) → IsShaped d optional_default
+default_shaped (t.First q) h = h
+default_shaped (t.Second q) h = h
+default_shaped _ h = absurd h
 
 or_none : (o : Option Tree) → or_else o None ≡ o
 or_none None = refl

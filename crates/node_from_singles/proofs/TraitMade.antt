@@ -123,8 +123,8 @@ pub either_made : {A B : Type 0} (r : Result A B) (m : A → Tree) (b : Bool) (a
     (t.Called the_item (by_unsafe b 18 11 (kept f)))))))
     → IsShaped f (ref k.ATrait) → o ≡ t.First (t.Pair a (t.Pair v (t.Called the_item f))) → c ≡ kept a → w ≡ kept v
     → IfOk r (λ y. (i : k.Kind) → trait_alone i (m y) ≡ t.Node i (kept o))
-either_made (Ok y) m b a v c w f o e s h p q i =
-    ap (trait_alone i) e
+either_made (Ok y) m b a v c w f o e s h p q =
+    λ i. ap (trait_alone i) e
     ∙ ap (λ z. t.Node i (t.First (t.Pair c (t.Pair w (t.Called the_item z)))))
     (unsafe_choice b 18 11 (kept f) ∙ node_kept f k.ATrait s)
     ∙ ap (λ z. t.Node i (t.First (t.Pair z (t.Pair w (t.Called the_item (kept f)))))) p

@@ -29,7 +29,6 @@ use syn_leaf::member::Index;
 /// # Errors
 ///
 /// Where there is no memory for it.
-#[tactic(auto, unfolding(syn_grammar::specs::Table::table, syn_grammar::specs::Kept::held))]
 pub fn one_fn_arg<E: Drop, R: Reader<E>>(below: &R, tree: &Tree<'_>) -> Result<FnArg<E>, AllocError>
     requires ready { R.ready below.now }
     requires shaped { IsShaped tree.now (g.ref k.FnArg) }
@@ -47,7 +46,6 @@ pub fn one_fn_arg<E: Drop, R: Reader<E>>(below: &R, tree: &Tree<'_>) -> Result<F
 /// # Errors
 ///
 /// Where there is no memory for it.
-#[tactic(auto, unfolding(syn_grammar::specs::Table::table, syn_grammar::specs::Kept::held))]
 pub fn one_stmt<E: Drop, R: Maker<E>>(below: &R, tree: &Tree<'_>) -> Result<Stmt<E>, AllocError>
     requires ready { R.ready below.now }
     requires shaped { IsShaped tree.now (g.ref k.OneStatement) }
@@ -62,7 +60,6 @@ pub fn one_stmt<E: Drop, R: Maker<E>>(below: &R, tree: &Tree<'_>) -> Result<Stmt
 /// # Errors
 ///
 /// Where there is no memory for it.
-#[tactic(auto, unfolding(syn_grammar::specs::Table::table, syn_grammar::specs::Kept::held))]
 pub fn one_index(tree: &Tree<'_>) -> Result<Index, AllocError>
     requires { IsShaped tree.now (g.ref k.Index) }
     ensures { IfOk result (λ x. singles.one_index x ≡ kept tree.now) }
@@ -75,7 +72,6 @@ pub fn one_index(tree: &Tree<'_>) -> Result<Index, AllocError>
 /// # Errors
 ///
 /// Where there is no memory for it.
-#[tactic(auto, using(node_from_patterns::proofs::Whole::tests), unfolding(syn_grammar::specs::Table::table, syn_grammar::specs::Kept::held))]
 pub fn one_multi<E: Drop, R: Maker<E>>(below: &R, tree: &Tree<'_>) -> Result<Pat<E>, AllocError>
     requires ready { R.ready below.now }
     requires shaped { IsShaped tree.now (g.ref k.SeveralPatterns) }

@@ -119,14 +119,6 @@ impl<
     }
 }
 
-// An item, in a place of its own.
-#[tactic(auto, using(crate::proofs::Equations::node_equations))]
-fn placed(alloc: Global, item: Item) -> Result<Node, AllocError>
-    ensures { IfOk result (λ x. node_view x ≡ item_view item) }
-{
-    Ok(Node::Item(Box::new(alloc, item)?))
-}
-
 #[tactic(auto, using(crate::proofs::Equations::item_equations))]
 impl<
     't,
@@ -134,101 +126,103 @@ impl<
     N: Fn(Global, What, &Tree<'_>) -> Result<Node, AllocError>,
     P: Fn(Global, Vec<Attribute<Node>>, &Tree<'_>) -> Result<Node, AllocError>,
     S: Fn(Global, &Tree<'_>) -> Result<Stmt<Node>, AllocError>,
-> ItemMaker<Node> for Below<'t, 'a, N, P, S>
+> ItemMaker<Node, Item> for Below<'t, 'a, N, P, S>
 {
-    fn of_const(&self, item: ItemConst<Node>) -> Result<Node, AllocError>
-        ensures { IfOk result (λ x. node_view x ≡ items.item_const node_view item) }
+    ghost item_view = { item_view };
+
+    fn of_const(&self, item: ItemConst<Node>) -> Item
+        ensures { item_view result ≡ items.item_const node_view item }
     {
-        placed(self.alloc, Item::Const(item))
+        Item::Const(item)
     }
 
-    fn of_enum(&self, item: ItemEnum<Node>) -> Result<Node, AllocError>
-        ensures { IfOk result (λ x. node_view x ≡ items.item_enum node_view item) }
+    fn of_enum(&self, item: ItemEnum<Node>) -> Item
+        ensures { item_view result ≡ items.item_enum node_view item }
     {
-        placed(self.alloc, Item::Enum(item))
+        Item::Enum(item)
     }
 
-    fn of_extern_crate(&self, item: ItemExternCrate<Node>) -> Result<Node, AllocError>
-        ensures { IfOk result (λ x. node_view x ≡ items.item_extern_crate node_view item) }
+    fn of_extern_crate(&self, item: ItemExternCrate<Node>) -> Item
+        ensures { item_view result ≡ items.item_extern_crate node_view item }
     {
-        placed(self.alloc, Item::ExternCrate(item))
+        Item::ExternCrate(item)
     }
 
-    fn of_fn(&self, item: ItemFn<Node>) -> Result<Node, AllocError>
-        ensures { IfOk result (λ x. node_view x ≡ items.item_fn node_view item) }
+    fn of_fn(&self, item: ItemFn<Node>) -> Item
+        ensures { item_view result ≡ items.item_fn node_view item }
     {
-        placed(self.alloc, Item::Fn(item))
+        Item::Fn(item)
     }
 
-    fn of_foreign_mod(&self, item: ItemForeignMod<Node>) -> Result<Node, AllocError>
-        ensures { IfOk result (λ x. node_view x ≡ members.item_foreign_mod node_view item) }
+    fn of_foreign_mod(&self, item: ItemForeignMod<Node>) -> Item
+        ensures { item_view result ≡ members.item_foreign_mod node_view item }
     {
-        placed(self.alloc, Item::ForeignMod(item))
+        Item::ForeignMod(item)
     }
 
-    fn of_impl(&self, item: ItemImpl<Node>) -> Result<Node, AllocError>
-        ensures { IfOk result (λ x. node_view x ≡ members.item_impl node_view item) }
+    fn of_impl(&self, item: ItemImpl<Node>) -> Item
+        ensures { item_view result ≡ members.item_impl node_view item }
     {
-        placed(self.alloc, Item::Impl(item))
+        Item::Impl(item)
     }
 
-    fn of_macro(&self, item: ItemMacro<Node>) -> Result<Node, AllocError>
-        ensures { IfOk result (λ x. node_view x ≡ items.item_macro node_view item) }
+    fn of_macro(&self, item: ItemMacro<Node>) -> Item
+        ensures { item_view result ≡ items.item_macro node_view item }
     {
-        placed(self.alloc, Item::Macro(item))
+        Item::Macro(item)
     }
 
-    fn of_mod(&self, item: ItemMod<Node>) -> Result<Node, AllocError>
-        ensures { IfOk result (λ x. node_view x ≡ items.item_mod node_view item) }
+    fn of_mod(&self, item: ItemMod<Node>) -> Item
+        ensures { item_view result ≡ items.item_mod node_view item }
     {
-        placed(self.alloc, Item::Mod(item))
+        Item::Mod(item)
     }
 
-    fn of_static(&self, item: ItemStatic<Node>) -> Result<Node, AllocError>
-        ensures { IfOk result (λ x. node_view x ≡ items.item_static node_view item) }
+    fn of_static(&self, item: ItemStatic<Node>) -> Item
+        ensures { item_view result ≡ items.item_static node_view item }
     {
-        placed(self.alloc, Item::Static(item))
+        Item::Static(item)
     }
 
-    fn of_struct(&self, item: ItemStruct<Node>) -> Result<Node, AllocError>
-        ensures { IfOk result (λ x. node_view x ≡ items.item_struct node_view item) }
+    fn of_struct(&self, item: ItemStruct<Node>) -> Item
+        ensures { item_view result ≡ items.item_struct node_view item }
     {
-        placed(self.alloc, Item::Struct(item))
+        Item::Struct(item)
     }
 
-    fn of_trait(&self, item: ItemTrait<Node>) -> Result<Node, AllocError>
-        ensures { IfOk result (λ x. node_view x ≡ members.item_trait node_view item) }
+    fn of_trait(&self, item: ItemTrait<Node>) -> Item
+        ensures { item_view result ≡ members.item_trait node_view item }
     {
-        placed(self.alloc, Item::Trait(item))
+        Item::Trait(item)
     }
 
-    fn of_trait_alias(&self, item: ItemTraitAlias<Node>) -> Result<Node, AllocError>
-        ensures { IfOk result (λ x. node_view x ≡ members.item_trait_alias node_view item) }
+    fn of_trait_alias(&self, item: ItemTraitAlias<Node>) -> Item
+        ensures { item_view result ≡ members.item_trait_alias node_view item }
     {
-        placed(self.alloc, Item::TraitAlias(item))
+        Item::TraitAlias(item)
     }
 
-    fn of_type(&self, item: ItemType<Node>) -> Result<Node, AllocError>
-        ensures { IfOk result (λ x. node_view x ≡ items.item_type node_view item) }
+    fn of_type(&self, item: ItemType<Node>) -> Item
+        ensures { item_view result ≡ items.item_type node_view item }
     {
-        placed(self.alloc, Item::Type(item))
+        Item::Type(item)
     }
 
-    fn of_union(&self, item: ItemUnion<Node>) -> Result<Node, AllocError>
-        ensures { IfOk result (λ x. node_view x ≡ items.item_union node_view item) }
+    fn of_union(&self, item: ItemUnion<Node>) -> Item
+        ensures { item_view result ≡ items.item_union node_view item }
     {
-        placed(self.alloc, Item::Union(item))
+        Item::Union(item)
     }
 
-    fn of_use(&self, item: ItemUse<Node>) -> Result<Node, AllocError>
-        ensures { IfOk result (λ x. node_view x ≡ imports.item_use node_view item) }
+    fn of_use(&self, item: ItemUse<Node>) -> Item
+        ensures { item_view result ≡ imports.item_use node_view item }
     {
-        placed(self.alloc, Item::Use(item))
+        Item::Use(item)
     }
 
-    fn of_tokens(&self, tokens: TokenStream) -> Result<Node, AllocError>
-        ensures { IfOk result (λ x. node_view x ≡ items.verbatim tokens) }
+    fn of_tokens(&self, tokens: TokenStream) -> Item
+        ensures { item_view result ≡ items.verbatim tokens }
     {
-        placed(self.alloc, Item::Verbatim(tokens))
+        Item::Verbatim(tokens)
     }
 }

@@ -14,6 +14,7 @@ ghost use Rattle.syn_grammar.specs.Kept.{kept};
 ghost use Rattle.syn_grammar.specs.Kind as k;
 
 use crate::below::Below;
+use crate::item::Item;
 use node_from_parts::metas::meta;
 use node_expressions::expr::Expr;
 use node_expressions::statement::Stmt;
@@ -45,9 +46,10 @@ fn of_type(alloc: Global, ty: Type<Node>) -> Result<Node, AllocError>
 
 // The node that a tree is, by what makes those in it.
 #[tactic(auto, using(crate::proofs::Equations::node_equations))]
-fn node_by<R: ItemMaker<Node>>(below: &R, what: What, tree: &Tree<'_>) -> Result<Node, AllocError>
+fn node_by<R: ItemMaker<Node, Item>>(below: &R, what: What, tree: &Tree<'_>) -> Result<Node, AllocError>
     requires ready { R.ready below.now }
     requires view { R.view ≡ node_view }
+    requires item_view { R.item_view ≡ item_view }
     requires shaped { IsWhat what tree.now }
     requires fewer { node_count tree.now ≤ R.bound below.now }
     ensures { IfOk result (λ x. node_view x ≡ made what (kept tree.now)) }
@@ -60,7 +62,7 @@ fn node_by<R: ItemMaker<Node>>(below: &R, what: What, tree: &Tree<'_>) -> Result
         What::Block => below.expression(Expr::Block(expr_body(below, tree)?)),
         What::Name => below.expression(Expr::Path(expr_name(below, tree)?)),
         What::Meta => Ok(Node::Meta(Box::new(below.alloc(), meta(below, tree)?)?)),
-        What::Item => item(below, tree),
+        What::Item => Ok(Node::Item(Box::new(below.alloc(), item(below, tree)?)?)),
         What::OnePattern => below.pattern(from_patterns::one_pattern(below, tree)?),
         What::Pattern => below.pattern(from_patterns::pattern(below, tree)?),
         What::Wild => {

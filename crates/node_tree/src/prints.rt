@@ -1,16 +1,20 @@
 //! What is printed of nodes, and of what nodes stand in.
 
 ghost use Rattle.node_print.specs.Puts.{PutsNormal};
+ghost use Rattle.node_tree.specs.Views.{item_view};
 ghost use Rattle.std.specs.Prelude.{◌≡◌, IfOk};
 ghost use Rattle.syn_grammar.specs.Tree.{Tree as GivenTree};
 
+use crate::item::Item;
 use crate::node::Node;
 use node_print::print_normal;
+use node_to::to_tree::ToTree;
 use node_traits::Prints;
 use proc_macro2::tree::TokenStream;
 use reader_tree::arena::Arena;
 use reader_tree::tree::Tree;
 use std::alloc::AllocError;
+use syn_error::to_tokens::ToTokens;
 
 /// What makes trees of the grammar of values of a type.
 pub(crate) trait Trees<T> {
@@ -36,5 +40,21 @@ where
         let arena = Arena::new(tokens.allocator());
         let tree = <Node as Trees<T>>::tree(value, &arena)?;
         print_normal(&arena, &tree, tokens)
+    }
+}
+
+impl Trees<Item> for Node {
+    ghost view = { item_view };
+
+    fn tree<'a>(value: &'a Item, arena: &'a Arena) -> Result<Tree<'a>, AllocError> {
+        value.to_tree(arena)
+    }
+}
+
+impl ToTokens for Item {
+    ghost puts = { PutsNormal item_view };
+
+    fn to_tokens(&self, tokens: &mut TokenStream) -> Result<(), AllocError> {
+        <Node as Prints<Item>>::print(self, tokens)
     }
 }

@@ -3,6 +3,7 @@
 ghost use Rattle.node_tree.specs.Views.{node_view};
 ghost use Rattle.node_tree.specs.Wholes.{whole};
 ghost use Rattle.node_views.specs.Expressions as expressions;
+ghost use Rattle.node_views.specs.Singles as singles;
 ghost use Rattle.node_views.specs.Statements as statements;
 ghost use Rattle.syn_grammar.specs.Kind as k;
 
@@ -13,10 +14,12 @@ use node_expressions::atom::FieldValue;
 use node_expressions::block::Block;
 use node_expressions::branch::Arm;
 use node_expressions::expr::Expr;
+use node_expressions::statement::Stmt;
 use node_from_bodies::blocks::block;
 use node_from_forms::branches::arm;
 use node_from_forms::dispatch::form;
 use node_from_forms::structs::field_value;
+use node_from_singles::others::one_stmt;
 use node_read::Makes;
 use node_take as take;
 use reader_table::kind::{Kind, Position};
@@ -77,5 +80,19 @@ impl Makes<FieldValue<Node>> for Node {
 
     fn make(alloc: Global, tree: &Tree<'_>) -> Result<FieldValue<Node>, AllocError> {
         field_value(&inside!(alloc, tree), tree)
+    }
+}
+
+impl Makes<Stmt<Node>> for Node {
+    ghost kind = { k.OneStatement };
+
+    ghost view = { singles.one_stmt node_view };
+
+    fn kind() -> Kind {
+        Kind::OneStatement
+    }
+
+    fn make(alloc: Global, tree: &Tree<'_>) -> Result<Stmt<Node>, AllocError> {
+        one_stmt(&inside!(alloc, tree), tree)
     }
 }

@@ -37,8 +37,7 @@ returns-in_ok-item_fn-in-0 g c =
     let f = c.args.form.now in
     let a = c.args.front.attrs.items in
     let v = visibility r c.args.front.vis in
-    made_other c.of_fn.result r _ _ c.of_fn.ensures
-    (c.in_ok-item_fn-in-0.ensures ∙ ap (λ n. item_of r a v (kept (among 22 n f))) (sym c.in-0.is))
+    c.of_fn.ensures ∙ (c.in_ok-item_fn-in-0.ensures ∙ ap (λ n. item_of r a v (kept (among 22 n f))) (sym c.in-0.is))
 
 -- item_extern_crate
 
@@ -53,8 +52,7 @@ returns-in_ok-item_extern_crate-in-1 g c =
     let f = c.args.form.now in
     let a = c.args.front.attrs.items in
     let v = visibility r c.args.front.vis in
-    made_other c.of_extern_crate.result r _ _ c.of_extern_crate.ensures
-    (c.in_ok-item_extern_crate-in-1.ensures ∙ ap (λ n. item_of r a v (kept (among 22 n f))) (sym c.in-1.is))
+    c.of_extern_crate.ensures ∙ (c.in_ok-item_extern_crate-in-1.ensures ∙ ap (λ n. item_of r a v (kept (among 22 n f))) (sym c.in-1.is))
 
 -- item_foreign_mod
 
@@ -71,7 +69,7 @@ returns-in_ok-item_foreign_mod-in-2 g c =
     let v = visibility r c.args.front.vis in
     let s : IsShaped f (ref k.AForeignModule) =
     subst (λ n. IsShaped (among 22 n f) item_form) c.in-2.is c.requires.shaped in
-    made_other c.of_foreign_mod.result r _ _ c.of_foreign_mod.ensures (c.in_ok-item_foreign_mod-in-2.ensures
+    c.of_foreign_mod.ensures ∙ (c.in_ok-item_foreign_mod-in-2.ensures
     ∙ ap (λ y. item_of r a y (by_unsafe (is_unsafe (own f)) 2 8 (kept f)))
     (sym (private_of r c.args.front.vis (file_foreign _ f s c.requires.verdict)))
     ∙ ap (λ y. item_of r a v y) (foreign_chosen c.args.which f (inl c.in-2.is) s c.requires.numbered))
@@ -114,8 +112,7 @@ returns-in_ok-item_use-in-3 g c =
     let f = c.args.form.now in
     let a = c.args.front.attrs.items in
     let v = visibility r c.args.front.vis in
-    made_other c.of_use.result r _ _ c.of_use.ensures
-    (c.in_ok-item_use-in-3.ensures ∙ ap (λ n. item_of r a v (kept (among 22 n f))) (sym c.in-3.is))
+    c.of_use.ensures ∙ (c.in_ok-item_use-in-3.ensures ∙ ap (λ n. item_of r a v (kept (among 22 n f))) (sym c.in-3.is))
 
 -- item_static
 
@@ -144,8 +141,7 @@ returns-in_ok-item_static-in-4 g c =
     let f = c.args.form.now in
     let a = c.args.front.attrs.items in
     let v = visibility r c.args.front.vis in
-    made_other c.of_static.result r _ _ c.of_static.ensures
-    (c.in_ok-item_static-in-4.ensures ∙ ap (λ n. item_of r a v (kept (among 22 n f))) (sym c.in-4.is))
+    c.of_static.ensures ∙ (c.in_ok-item_static-in-4.ensures ∙ ap (λ n. item_of r a v (kept (among 22 n f))) (sym c.in-4.is))
 
 -- item_const
 
@@ -167,8 +163,7 @@ returns-in_ok-item_const-in-7 g c =
     let f = c.args.form.now in
     let a = c.args.front.attrs.items in
     let v = visibility r c.args.front.vis in
-    made_other c.of_const.result r _ _ c.of_const.ensures
-    (c.in_ok-item_const-in-7.ensures ∙ ap (λ n. item_of r a v (kept (among 22 n f))) (sym c.in-7.is))
+    c.of_const.ensures ∙ (c.in_ok-item_const-in-7.ensures ∙ ap (λ n. item_of r a v (kept (among 22 n f))) (sym c.in-7.is))
 
 -- item_mod
 
@@ -185,7 +180,7 @@ returns-in_ok-item_mod-in-9 g c =
     let v = visibility r c.args.front.vis in
     let s : IsShaped f (ref k.AModule) =
     subst (λ n. IsShaped (among 22 n f) item_form) c.in-9.is c.requires.shaped in
-    made_other c.of_mod.result r _ _ c.of_mod.ensures (c.in_ok-item_mod-in-9.ensures
+    c.of_mod.ensures ∙ (c.in_ok-item_mod-in-9.ensures
     ∙ ap (λ y. item_of r a v y) (mod_chosen c.args.which f (inl c.in-9.is) s c.requires.numbered))
 
 pub item_mod-requires-in-12-clause-shaped : goal.item_mod-requires-in-12-clause-shaped
@@ -226,7 +221,7 @@ returns-in_ok-item_impl-in-10 g c =
     let v = visibility r c.args.front.vis in
     let s : IsShaped f (ref k.AnImpl) =
     subst (λ n. IsShaped (among 22 n f) item_form) c.in-10.is c.requires.shaped in
-    made_other c.of_impl.result r _ _ c.of_impl.ensures (c.in_ok-item_impl-in-10.ensures
+    c.of_impl.ensures ∙ (c.in_ok-item_impl-in-10.ensures
     ∙ ap (λ y. item_of r a y (by_unsafe (is_unsafe_impl (what_is_kept (own f))) 19 10 (kept f)))
     (sym (private_of r c.args.front.vis (file_impl _ f s c.requires.verdict).1))
     ∙ ap (λ y. item_of r a v y) (impl_chosen c.args.which f (inl c.in-10.is) s c.requires.numbered))
@@ -271,7 +266,7 @@ returns-in_ok-item_traits-in-11 g c =
     let v = visibility r c.args.front.vis in
     let s : IsShaped f (ref k.ATrait) =
     subst (λ n. IsShaped (among 22 n f) item_form) c.in-11.is c.requires.shaped in
-    made_other c.of_traits.result r _ _ c.of_traits.ensures (c.in_ok-item_traits-in-11.ensures
+    c.of_traits.ensures ∙ (c.in_ok-item_traits-in-11.ensures
     ∙ ap (λ y. item_of r a v y) (trait_chosen c.args.which f (inl c.in-11.is) s c.requires.numbered))
 
 pub item_traits-requires-in-18-clause-shaped : goal.item_traits-requires-in-18-clause-shaped
@@ -317,8 +312,7 @@ returns-in_ok-item_type-in-13 g c =
     let f = c.args.form.now in
     let a = c.args.front.attrs.items in
     let v = visibility r c.args.front.vis in
-    made_other c.of_type.result r _ _ c.of_type.ensures
-    (c.in_ok-item_type-in-13.ensures ∙ ap (λ n. item_of r a v (kept (among 22 n f))) (sym c.in-13.is))
+    c.of_type.ensures ∙ (c.in_ok-item_type-in-13.ensures ∙ ap (λ n. item_of r a v (kept (among 22 n f))) (sym c.in-13.is))
 
 -- item_struct
 
@@ -333,8 +327,7 @@ returns-in_ok-item_struct-in-14 g c =
     let f = c.args.form.now in
     let a = c.args.front.attrs.items in
     let v = visibility r c.args.front.vis in
-    made_other c.of_struct.result r _ _ c.of_struct.ensures
-    (c.in_ok-item_struct-in-14.ensures ∙ ap (λ n. item_of r a v (kept (among 22 n f))) (sym c.in-14.is))
+    c.of_struct.ensures ∙ (c.in_ok-item_struct-in-14.ensures ∙ ap (λ n. item_of r a v (kept (among 22 n f))) (sym c.in-14.is))
 
 -- item_enum
 
@@ -349,8 +342,7 @@ returns-in_ok-item_enum-in-15 g c =
     let f = c.args.form.now in
     let a = c.args.front.attrs.items in
     let v = visibility r c.args.front.vis in
-    made_other c.of_enum.result r _ _ c.of_enum.ensures
-    (c.in_ok-item_enum-in-15.ensures ∙ ap (λ n. item_of r a v (kept (among 22 n f))) (sym c.in-15.is))
+    c.of_enum.ensures ∙ (c.in_ok-item_enum-in-15.ensures ∙ ap (λ n. item_of r a v (kept (among 22 n f))) (sym c.in-15.is))
 
 -- item_union
 
@@ -365,8 +357,7 @@ returns-in_ok-item_union-in-16 g c =
     let f = c.args.form.now in
     let a = c.args.front.attrs.items in
     let v = visibility r c.args.front.vis in
-    made_other c.of_union.result r _ _ c.of_union.ensures
-    (c.in_ok-item_union-in-16.ensures ∙ ap (λ n. item_of r a v (kept (among 22 n f))) (sym c.in-16.is))
+    c.of_union.ensures ∙ (c.in_ok-item_union-in-16.ensures ∙ ap (λ n. item_of r a v (kept (among 22 n f))) (sym c.in-16.is))
 
 -- item_macro
 
@@ -383,7 +374,7 @@ returns-in_ok-item_macro-in-21 g c =
     let v = visibility r c.args.front.vis in
     let s : IsShaped f (ref (k.ItemMacro k.InFile)) =
     subst (λ n. IsShaped (among 22 n f) item_form) c.in-21.is c.requires.shaped in
-    made_other c.of_macro.result r _ _ c.of_macro.ensures (c.in_ok-item_macro-in-21.ensures
+    c.of_macro.ensures ∙ (c.in_ok-item_macro-in-21.ensures
     ∙ ap (λ y. item_of r a y (alternative 21 (kept f)))
     (sym (private_of r c.args.front.vis (file_macro _ f s c.requires.verdict)))
     ∙ ap (λ n. item_of r a v (kept (among 22 n f))) (sym c.in-21.is))

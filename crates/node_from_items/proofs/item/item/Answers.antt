@@ -44,14 +44,13 @@ as_read-requires g c = (subst (λ x. IsShaped x (table k.AnItem)) c.in-Raw.ensur
 pub returns-in-Kept : goal.returns-in-Kept
 unfolding held
 returns-in-Kept g c =
-    made_other c.kept_item.result g.R.Reader.view _ _ c.kept_item.ensures
+    made_other c.kept_item.result g.R.ItemMaker.item_view _ _ c.kept_item.ensures
     (sym (ap kept (c.node.ensures.node ∙ ap (t.Node k.AnItem) c.in-Kept.ensures)))
 
 pub returns-in_ok-as_read-in-Raw : goal.returns-in_ok-as_read-in-Raw
 unfolding held
 returns-in_ok-as_read-in-Raw g c =
-    made_other c.of_tokens.result g.R.Reader.view _ _ c.of_tokens.ensures
-    (ap (t.Node k.AnItem) c.in_ok-as_read-in-Raw.ensures
+    c.of_tokens.ensures ∙ (ap (t.Node k.AnItem) c.in_ok-as_read-in-Raw.ensures
     ∙ sym (ap kept (c.node.ensures.node ∙ ap (t.Node k.AnItem) c.in-Raw.ensures)))
 
 pub kept_item-requires-clause-numbered : goal.kept_item-requires-clause-numbered

@@ -78,7 +78,7 @@ chosen_item-requires-clause-fewer g c =
 pub returns : goal.returns
 returns g c =
     let w = c.alternative-which in
-    made_other c.chosen_item.result g.R.Reader.view _ _ c.chosen_item.ensures
+    made_other c.chosen_item.result g.R.ItemMaker.item_view _ _ c.chosen_item.ensures
     (ap (λ y. t.Node k.AnItem (t.First y)) (item_kept c.args.tree.now _ _ w.result.1.now _ _ _ w.result.0
     c.requires.shaped
     (item_parted _ _ _ _ _ w.result.1.now _ w.result.0 c.three.ensures c.called.ensures.1 w.ensures.chosen)

@@ -5,10 +5,8 @@ use Rattle.node_from_items.proofs.item.of_traits.Goals as goal
 
 pub returns-in-Whole : goal.returns-in-Whole
 returns-in-Whole g c =
-    made_other c.of_trait.result g.R.Reader.view _ _ c.of_trait.ensures
-    (ap (traits_item g.R.Reader.view) (sym c.in-Whole.is))
+    c.of_trait.ensures ∙ (ap (traits_item g.R.Reader.view) (sym c.in-Whole.is))
 
 pub returns-in-Alias : goal.returns-in-Alias
 returns-in-Alias g c =
-    made_other c.of_trait_alias.result g.R.Reader.view _ _ c.of_trait_alias.ensures
-    (ap (traits_item g.R.Reader.view) (sym c.in-Alias.is))
+    c.of_trait_alias.ensures ∙ (ap (traits_item g.R.Reader.view) (sym c.in-Alias.is))

@@ -1,5 +1,4 @@
 use Rattle.std.specs.Prelude.{refl}
-use Rattle.syn_grammar.specs.Kept.{kept}
 use Rattle.syn_grammar.specs.Kind as k
 use Rattle.node_views.specs.Members.{impl_item_macro}
 use Rattle.node_from_singles.proofs.Alone.{node_kept}

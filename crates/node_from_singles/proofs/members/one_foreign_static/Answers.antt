@@ -1,5 +1,5 @@
 use Rattle.std.specs.Prelude.{refl}
-use Rattle.std.proofs.Common.{◌∙◌, ap, arith}
+use Rattle.std.proofs.Common.{ap, arith}
 use Rattle.reader_tree.specs.Size.{node_count}
 use Rattle.syn_grammar.specs.Kept.{held, kept}
 use Rattle.syn_grammar.specs.Kind as k
@@ -109,5 +109,5 @@ returns g c =
     let f = c.called.result.now in
     let h = static_kept_of c.node-own.result.now _ _ d f _ _ _ e c.node-own.ensures.shaped
     c.in_ok-front.ensures.attributes c.in_ok-front.ensures.visibility in
-    static_made c.foreign_item_static.result (foreign_item_static g.R.Reader.view) _ _ d f _ c.node-own.result.now
+    static_made c.foreign_item_static.result (foreign_item_static g.R.Reader.view) _ _ d _ f c.node-own.result.now
     c.args.tree.now c.foreign_item_static.ensures refl h (ap kept c.node-own.ensures.node)

@@ -5,9 +5,9 @@ use Rattle.syn_grammar.specs.Kept.{held, kept}
 use Rattle.syn_grammar.specs.Kind as k
 use Rattle.syn_grammar.specs.Table.{table}
 use Rattle.node_views.specs.Members.{impl_item_const}
-use Rattle.node_from_items.proofs.Fronts.{other_test}
 use Rattle.node_from_items.proofs.Verdicts.{impl_constant}
 use Rattle.node_from_singles.proofs.Made.{impl_item_made}
+use Rattle.node_from_singles.proofs.MemberParts.{default_shaped}
 use Rattle.node_from_singles.proofs.members.one_impl_const.Goals as goal
 
 pub node-requires : goal.node-requires
@@ -24,7 +24,7 @@ pub member_parts-requires-clause-fewer : goal.member_parts-requires-clause-fewer
 member_parts-requires-clause-fewer g c = omega (arith, ap node_count c.node.ensures.node, c.requires.fewer)
 
 pub defaultness-requires : goal.defaultness-requires
-defaultness-requires g c = other_test _ _ _ _ _ c.in_ok-front.ensures.default
+defaultness-requires g c = default_shaped c.in_ok-front.word.now c.in_ok-front.ensures.default
 
 pub impl_item_const-requires-clause-shaped : goal.impl_item_const-requires-clause-shaped
 unfolding table

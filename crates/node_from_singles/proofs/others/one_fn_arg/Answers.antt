@@ -32,13 +32,13 @@ any_param-requires-clause-fewer g c =
 pub unreachable-requires : goal.unreachable-requires
 unfolding table
 unreachable-requires g c =
-    false≢true (sym (ap not (sym c.in_ok-any_param.ensures.dots ∙ ap has_dots c.in-Dots.is))
+    false≢true (sym (ap not (sym c.in_ok-arg.ensures.dots ∙ ap has_dots c.in-Dots.is))
     ∙ ap (λ x. not (is_variadic (what_is_kept x))) (sym c.kept.ensures)
     ∙ kept_so c.node.result.now (λ x. not (is_variadic x)) (ref k.Parameter) c.node.ensures.shaped)
 
-pub returns-in-Arg : goal.returns-in-Arg
+pub returns : goal.returns
 unfolding held
-returns-in-Arg g c =
+returns g c =
     ap (λ x. t.Node k.FnArg (t.First (param g.R.Reader.view x))) (sym c.in-Arg.is)
-    ∙ ap (λ x. t.Node k.FnArg (t.First x)) c.in_ok-any_param.ensures.param
+    ∙ ap (λ x. t.Node k.FnArg (t.First x)) c.in_ok-arg.ensures.param
     ∙ sym (ap kept (c.node.ensures.node ∙ ap (t.Node k.FnArg) c.kept.ensures))

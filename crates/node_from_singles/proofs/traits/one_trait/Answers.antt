@@ -27,11 +27,11 @@ either-requires-clause-fewer g c = omega (arith, ap node_count c.node.ensures.no
 pub unreachable-requires : goal.unreachable-requires
 unfolding table
 unreachable-requires g c =
-    false≢true (sym (ap not (sym c.in_ok-either.ensures.alias ∙ ap is_alias c.in-Alias.is))
+    false≢true (sym (ap not (sym c.in_ok-whole.ensures.alias ∙ ap is_alias c.in-Alias.is))
     ∙ kept_so c.node.result.now (λ x. not (is_trait_alias (the the_item x))) trait_parts c.node.ensures.shaped)
 
-pub returns-in-Whole : goal.returns-in-Whole
+pub returns : goal.returns
 unfolding held
-returns-in-Whole g c =
+returns g c =
     ap (λ x. trait_alone k.ItemTrait (traits_item g.R.Reader.view x)) (sym c.in-Whole.is)
-    ∙ c.in_ok-either.ensures.kept k.ItemTrait ∙ sym (ap kept c.node.ensures.node)
+    ∙ c.in_ok-whole.ensures.kept k.ItemTrait ∙ sym (ap kept c.node.ensures.node)

@@ -29,8 +29,8 @@ unreachable-requires g c =
     false≢true (sym (ap is_alias c.in-Whole.is) ∙ c.in_ok-either.ensures.alias ∙ kept_so c.node.result.now
     (λ x. is_trait_alias (the the_item x)) trait_parts c.node.ensures.shaped)
 
-pub returns-in-Alias : goal.returns-in-Alias
+pub returns : goal.returns
 unfolding held
-returns-in-Alias g c =
+returns g c =
     ap (λ x. trait_alone k.ItemTraitAlias (traits_item g.R.Reader.view x)) (sym c.in-Alias.is)
     ∙ c.in_ok-either.ensures.kept k.ItemTraitAlias ∙ sym (ap kept c.node.ensures.node)
