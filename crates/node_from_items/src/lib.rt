@@ -17,11 +17,12 @@
 //! - `traits`: traits and what stands in them, and bounds with a name.
 //! - `members`: what stands in traits and impls, by its kind.
 //! - `foreign`: extern blocks and what stands in them.
-//! - `item`: an item, by its kind.
+//! - `item`: an item, by its kind; `files`: what stands in a file.
 #![tactic(auto)]
 
 pub mod aliases;
 pub mod data;
+pub mod files;
 pub mod foreign;
 pub mod front;
 pub mod functions;

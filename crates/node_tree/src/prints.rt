@@ -2,13 +2,17 @@
 
 ghost use Rattle.node_print.specs.Puts.{PutsNormal};
 ghost use Rattle.node_tree.specs.Views.{item_view};
+ghost use Rattle.node_tree.specs.Wholes.{file_view};
 ghost use Rattle.std.specs.Prelude.{◌≡◌, IfOk};
 ghost use Rattle.syn_grammar.specs.Tree.{Tree as GivenTree};
 
+use crate::file::File;
 use crate::item::Item;
 use crate::node::Node;
 use node_print::print_normal;
+use node_to::attributes::inner_attributes;
 use node_to::to_tree::ToTree;
+use node_to_items::module::file_of;
 use node_traits::Prints;
 use proc_macro2::tree::TokenStream;
 use reader_tree::arena::Arena;
@@ -56,5 +60,22 @@ impl ToTokens for Item {
 
     fn to_tokens(&self, tokens: &mut TokenStream) -> Result<(), AllocError> {
         <Node as Prints<Item>>::print(self, tokens)
+    }
+}
+
+impl Trees<File> for Node {
+    ghost view = { file_view };
+
+    fn tree<'a>(value: &'a File, arena: &'a Arena) -> Result<Tree<'a>, AllocError> {
+        file_of(arena, inner_attributes(arena, &value.attrs), &value.items)
+    }
+}
+
+impl ToTokens for File {
+    ghost puts = { PutsNormal file_view };
+
+    /// Adds the tokens of the attributes and the items. The first line `#!` is no token.
+    fn to_tokens(&self, tokens: &mut TokenStream) -> Result<(), AllocError> {
+        <Node as Prints<File>>::print(self, tokens)
     }
 }

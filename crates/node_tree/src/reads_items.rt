@@ -2,10 +2,12 @@
 
 ghost use Rattle.node_traits.specs.Reads.{NoneStands, ReadAs};
 ghost use Rattle.node_tree.specs.Views.{item_view, node_view};
+ghost use Rattle.node_tree.specs.Wholes.{file_view};
 ghost use Rattle.node_views.specs.Singles as singles;
 ghost use Rattle.syn_grammar.specs.Kind as k;
 
 use crate::below::Below;
+use crate::file::File;
 use crate::item::Item;
 use crate::made::{attributed_pattern, node, statement};
 use crate::node::Node;
@@ -24,6 +26,7 @@ use node_items::mac::ItemMacro;
 use node_items::module::{ItemExternCrate, ItemForeignMod, ItemMod};
 use node_items::traits::{ItemTrait, ItemTraitAlias};
 use node_items::value::{ItemConst, ItemStatic};
+use node_from_items::files::file_parts;
 use node_from_items::item::item;
 use node_read::Makes;
 use node_traits::Reads;
@@ -265,5 +268,36 @@ impl Parse for Item {
     /// Reads an item, with its attributes and its visibility.
     fn parse(input: &mut ParseBuffer<'_>) -> Result<Item, ParseFault> {
         <Node as Reads<Item>>::read(input)
+    }
+}
+
+impl Makes<File> for Node {
+    ghost kind = { k.AFile };
+
+    ghost view = { file_view };
+
+    fn kind() -> Kind {
+        Kind::AFile
+    }
+
+    fn make(alloc: Global, tree: &Tree<'_>) -> Result<File, AllocError> {
+        let (attrs, items) = file_parts(&inside!(alloc, tree), tree)?;
+        Ok(File {
+            shebang: None,
+            frontmatter: None,
+            attrs,
+            items,
+        })
+    }
+}
+
+impl Parse for File {
+    ghost reads = { ReadAs k.AFile file_view };
+
+    ghost refuses = { NoneStands k.AFile };
+
+    /// Reads the attributes within a file and its items, to the end. No stream has a line `#!` or lines of `---`.
+    fn parse(input: &mut ParseBuffer<'_>) -> Result<File, ParseFault> {
+        <Node as Reads<File>>::read(input)
     }
 }
