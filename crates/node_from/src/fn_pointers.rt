@@ -29,11 +29,7 @@ use syn_kinds::token;
 
 // The type behind `->`, which may hold a `+` or not.
 #[tactic(auto, unfolding(syn_grammar::specs::Table::table, syn_grammar::specs::Kept::held, syn_kinds::specs::Table::marks, syn_kinds::specs::Table::sign, syn_kinds::specs::Table::word))]
-fn returned<E: Drop, R: Reader<E>>(
-    below: &R,
-    plus: Plus,
-    tree: &Tree<'_>,
-) -> Result<E, AllocError>
+fn returned<E: Drop, R: Reader<E>>(below: &R, plus: Plus, tree: &Tree<'_>) -> Result<E, AllocError>
     requires ready { R.ready below.now }
     requires shaped { IsShaped tree.now (g.ref (k.AType (plus_of plus))) }
     requires fewer { node_count tree.now < R.bound below.now }

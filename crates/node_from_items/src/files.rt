@@ -20,6 +20,7 @@ use std::alloc::{AllocError, Global};
 use std::marker::PhantomData;
 
 // Makes the items of a file.
+#[derive(Drop)]
 struct FileItems<'r, E, R> {
     below: &'r R,
     nodes: PhantomData<E>,

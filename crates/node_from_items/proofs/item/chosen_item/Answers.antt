@@ -11,7 +11,7 @@ use Rattle.node_views.specs.Items.{item_of}
 use Rattle.node_words.specs.Words.{alternative}
 use Rattle.node_from_items.specs.Numbers.{by_unsafe, what_is_kept}
 use Rattle.node_from_items.specs.Values.{own}
-use Rattle.node_from_items.proofs.FileForms.{foreign_chosen, impl_chosen, made_other, mod_chosen}
+use Rattle.node_from_items.proofs.FileForms.{foreign_chosen, impl_chosen, mod_chosen}
 use Rattle.node_from_items.proofs.FileForms.{no_other_item, private_of, trait_chosen}
 use Rattle.node_from_items.proofs.Verdicts.{file_alias, file_constant, file_foreign, file_function, file_impl}
 use Rattle.node_from_items.proofs.Verdicts.{file_macro, file_static, file_use}
@@ -52,7 +52,8 @@ returns-in_ok-item_extern_crate-in-1 g c =
     let f = c.args.form.now in
     let a = c.args.front.attrs.items in
     let v = visibility r c.args.front.vis in
-    c.of_extern_crate.ensures ∙ (c.in_ok-item_extern_crate-in-1.ensures ∙ ap (λ n. item_of r a v (kept (among 22 n f))) (sym c.in-1.is))
+    c.of_extern_crate.ensures
+    ∙ (c.in_ok-item_extern_crate-in-1.ensures ∙ ap (λ n. item_of r a v (kept (among 22 n f))) (sym c.in-1.is))
 
 -- item_foreign_mod
 
@@ -87,7 +88,7 @@ returns-in_ok-item_foreign_mod-in-8 g c =
     let v = visibility r c.args.front.vis in
     let s : IsShaped f (ref k.AForeignModule) =
     subst (λ n. IsShaped (among 22 n f) item_form) c.in-8.is c.requires.shaped in
-    made_other c.of_foreign_mod-in-8.result r _ _ c.of_foreign_mod-in-8.ensures (c.in_ok-item_foreign_mod-in-8.ensures
+    c.of_foreign_mod-in-8.ensures ∙ (c.in_ok-item_foreign_mod-in-8.ensures
     ∙ ap (λ y. item_of r a y (by_unsafe (is_unsafe (own f)) 2 8 (kept f)))
     (sym (private_of r c.args.front.vis (file_foreign _ f s c.requires.verdict)))
     ∙ ap (λ y. item_of r a v y) (foreign_chosen c.args.which f (inr c.in-8.is) s c.requires.numbered))
@@ -112,7 +113,8 @@ returns-in_ok-item_use-in-3 g c =
     let f = c.args.form.now in
     let a = c.args.front.attrs.items in
     let v = visibility r c.args.front.vis in
-    c.of_use.ensures ∙ (c.in_ok-item_use-in-3.ensures ∙ ap (λ n. item_of r a v (kept (among 22 n f))) (sym c.in-3.is))
+    c.of_use.ensures
+    ∙ (c.in_ok-item_use-in-3.ensures ∙ ap (λ n. item_of r a v (kept (among 22 n f))) (sym c.in-3.is))
 
 -- item_static
 
@@ -141,7 +143,8 @@ returns-in_ok-item_static-in-4 g c =
     let f = c.args.form.now in
     let a = c.args.front.attrs.items in
     let v = visibility r c.args.front.vis in
-    c.of_static.ensures ∙ (c.in_ok-item_static-in-4.ensures ∙ ap (λ n. item_of r a v (kept (among 22 n f))) (sym c.in-4.is))
+    c.of_static.ensures
+    ∙ (c.in_ok-item_static-in-4.ensures ∙ ap (λ n. item_of r a v (kept (among 22 n f))) (sym c.in-4.is))
 
 -- item_const
 
@@ -163,7 +166,8 @@ returns-in_ok-item_const-in-7 g c =
     let f = c.args.form.now in
     let a = c.args.front.attrs.items in
     let v = visibility r c.args.front.vis in
-    c.of_const.ensures ∙ (c.in_ok-item_const-in-7.ensures ∙ ap (λ n. item_of r a v (kept (among 22 n f))) (sym c.in-7.is))
+    c.of_const.ensures
+    ∙ (c.in_ok-item_const-in-7.ensures ∙ ap (λ n. item_of r a v (kept (among 22 n f))) (sym c.in-7.is))
 
 -- item_mod
 
@@ -196,7 +200,7 @@ returns-in_ok-item_mod-in-12 g c =
     let v = visibility r c.args.front.vis in
     let s : IsShaped f (ref k.AModule) =
     subst (λ n. IsShaped (among 22 n f) item_form) c.in-12.is c.requires.shaped in
-    made_other c.of_mod-in-12.result r _ _ c.of_mod-in-12.ensures (c.in_ok-item_mod-in-12.ensures
+    c.of_mod-in-12.ensures ∙ (c.in_ok-item_mod-in-12.ensures
     ∙ ap (λ y. item_of r a v y) (mod_chosen c.args.which f (inr c.in-12.is) s c.requires.numbered))
 
 -- item_impl
@@ -246,7 +250,7 @@ returns-in_ok-item_impl-in-19 g c =
     let v = visibility r c.args.front.vis in
     let s : IsShaped f (ref k.AnImpl) =
     subst (λ n. IsShaped (among 22 n f) item_form) c.in-19.is c.requires.shaped in
-    made_other c.of_impl-in-19.result r _ _ c.of_impl-in-19.ensures (c.in_ok-item_impl-in-19.ensures
+    c.of_impl-in-19.ensures ∙ (c.in_ok-item_impl-in-19.ensures
     ∙ ap (λ y. item_of r a y (by_unsafe (is_unsafe_impl (what_is_kept (own f))) 19 10 (kept f)))
     (sym (private_of r c.args.front.vis (file_impl _ f s c.requires.verdict).1))
     ∙ ap (λ y. item_of r a v y) (impl_chosen c.args.which f (inr c.in-19.is) s c.requires.numbered))
@@ -282,7 +286,7 @@ returns-in_ok-item_traits-in-18 g c =
     let v = visibility r c.args.front.vis in
     let s : IsShaped f (ref k.ATrait) =
     subst (λ n. IsShaped (among 22 n f) item_form) c.in-18.is c.requires.shaped in
-    made_other c.of_traits-in-18.result r _ _ c.of_traits-in-18.ensures (c.in_ok-item_traits-in-18.ensures
+    c.of_traits-in-18.ensures ∙ (c.in_ok-item_traits-in-18.ensures
     ∙ ap (λ y. item_of r a v y) (trait_chosen c.args.which f (inr c.in-18.is) s c.requires.numbered))
 
 -- item_type
@@ -312,7 +316,8 @@ returns-in_ok-item_type-in-13 g c =
     let f = c.args.form.now in
     let a = c.args.front.attrs.items in
     let v = visibility r c.args.front.vis in
-    c.of_type.ensures ∙ (c.in_ok-item_type-in-13.ensures ∙ ap (λ n. item_of r a v (kept (among 22 n f))) (sym c.in-13.is))
+    c.of_type.ensures
+    ∙ (c.in_ok-item_type-in-13.ensures ∙ ap (λ n. item_of r a v (kept (among 22 n f))) (sym c.in-13.is))
 
 -- item_struct
 
@@ -327,7 +332,8 @@ returns-in_ok-item_struct-in-14 g c =
     let f = c.args.form.now in
     let a = c.args.front.attrs.items in
     let v = visibility r c.args.front.vis in
-    c.of_struct.ensures ∙ (c.in_ok-item_struct-in-14.ensures ∙ ap (λ n. item_of r a v (kept (among 22 n f))) (sym c.in-14.is))
+    c.of_struct.ensures
+    ∙ (c.in_ok-item_struct-in-14.ensures ∙ ap (λ n. item_of r a v (kept (among 22 n f))) (sym c.in-14.is))
 
 -- item_enum
 
@@ -342,7 +348,8 @@ returns-in_ok-item_enum-in-15 g c =
     let f = c.args.form.now in
     let a = c.args.front.attrs.items in
     let v = visibility r c.args.front.vis in
-    c.of_enum.ensures ∙ (c.in_ok-item_enum-in-15.ensures ∙ ap (λ n. item_of r a v (kept (among 22 n f))) (sym c.in-15.is))
+    c.of_enum.ensures
+    ∙ (c.in_ok-item_enum-in-15.ensures ∙ ap (λ n. item_of r a v (kept (among 22 n f))) (sym c.in-15.is))
 
 -- item_union
 
@@ -357,7 +364,8 @@ returns-in_ok-item_union-in-16 g c =
     let f = c.args.form.now in
     let a = c.args.front.attrs.items in
     let v = visibility r c.args.front.vis in
-    c.of_union.ensures ∙ (c.in_ok-item_union-in-16.ensures ∙ ap (λ n. item_of r a v (kept (among 22 n f))) (sym c.in-16.is))
+    c.of_union.ensures
+    ∙ (c.in_ok-item_union-in-16.ensures ∙ ap (λ n. item_of r a v (kept (among 22 n f))) (sym c.in-16.is))
 
 -- item_macro
 

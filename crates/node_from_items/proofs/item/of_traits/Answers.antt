@@ -1,6 +1,5 @@
-use Rattle.std.proofs.Common.{ap, sym}
+use Rattle.std.proofs.Common.{◌∙◌, ap, sym}
 use Rattle.node_from_items.specs.Members.{traits_item}
-use Rattle.node_from_items.proofs.FileForms.{made_other}
 use Rattle.node_from_items.proofs.item.of_traits.Goals as goal
 
 pub returns-in-Whole : goal.returns-in-Whole

@@ -15,7 +15,7 @@ abbrev pub invariant-loop-element : goal.invariant-loop-element
 invariant-loop-element g l =
     let left = elements l.fn.mark (drop l.element-index l.before) End in record {
       whole : (y : Tree) → all_listed l.fn.mark g.M.Pick.view l.list.values.items
-      (kept (elements l.fn.mark (drop l.element-index l.before) y)) ≡ kept (elements l.fn.mark l.before y);
+          (kept (elements l.fn.mark (drop l.element-index l.before) y)) ≡ kept (elements l.fn.mark l.before y);
       shaped : (e : List Token → Bool) × IsShaped left (many e l.fn.mark g.M.Pick.shape);
       passed : each_separated g.M.Pick.passes left ≡ true;
       even : length l.list.values.items ≡ length l.list.separators.items;

@@ -51,8 +51,8 @@ pub returns-in-None : goal.returns-in-None
 returns-in-None g c =
     let f = g.R.Reader.view in
     let p = kept c.args.pattern.now in
-    IfOk-weaker c.node.result (λ x. f x ≡ p)
+    IfOk-weaker c.node-in-None.result (λ x. f x ≡ p)
     (λ x. (y : Tree) → let_pattern (f x) y ≡ t.Pair p (t.Pair (kept c.args.ty.now) y))
     (λ x h y. ap (λ z. let_pattern z y) h ∙ untyped c.args.pattern.now y c.requires.pattern
     ∙ ap (λ z. t.Pair p (t.Pair z y)) (sym (ap kept c.in-None.ensures)))
-    c.node.ensures
+    c.node-in-None.ensures
