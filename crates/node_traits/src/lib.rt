@@ -1,7 +1,7 @@
-//! What a type that closes the recursion does for the types over it: it reads and prints their values.
+//! What a type that closes the recursion says of the types over it: what reads and what prints their values.
 //!
-//! `Parse` and `ToTokens` stand with each type, and ask for these traits of its `E`. What reads and prints stands above
-//! all of the types, with the one that takes the place of `E`.
+//! `Parse` and `ToTokens` stand with each type, and ask for that of its `E`. What reads and prints stands above all of
+//! the types, for any `E` that is made of trees and is one.
 #![tactic(auto)]
 
 ghost use Rattle.proc_macro2.specs.Token.{Spanned};
@@ -17,6 +17,15 @@ use proc_macro2::tree::TokenStream;
 use std::alloc::AllocError;
 use syn_error::ParseFault;
 use syn_input::ParseBuffer;
+
+/// A type that closes the recursion of the types over it.
+pub trait Native: Drop {
+    /// What reads the types over it from a stream.
+    type Reader;
+
+    /// What prints them.
+    type Printer;
+}
 
 /// What reads values of a type from a stream.
 pub trait Reads<T> {

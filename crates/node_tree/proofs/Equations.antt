@@ -55,7 +55,7 @@ use Rattle.node_tree.proofs.Types.{type_mapped}
 pub view_expr : (x : Box (Expr Node) Global) → node_view (nodes.Expr x) ≡ expr node_view x.value
 view_expr x =
     ap node_view (sym (nodes.rolls-Expr x)) ∙ fold-roll-Node Tree Tree item_step node_step (layer.Expr x)
-    ∙ expr_mapped node_view x.value
+    ∙ expr_mapped node_view x x.value
 
 pub view_item : (x : Box Item Global) → node_view (nodes.Item x) ≡ item_view x.value
 view_item x = ap node_view (sym (nodes.rolls-Item x)) ∙ fold-roll-Node Tree Tree item_step node_step (layer.Item x)
@@ -68,7 +68,7 @@ view_meta x =
 pub view_pat : (x : Box (Pat Node) Global) → node_view (nodes.Pat x) ≡ pat node_view x.value
 view_pat x =
     ap node_view (sym (nodes.rolls-Pat x)) ∙ fold-roll-Node Tree Tree item_step node_step (layer.Pat x)
-    ∙ pat_mapped node_view x.value
+    ∙ pat_mapped node_view x x.value
 
 pub view_type : (x : Box (Type' Node) Global) → node_view (nodes.«Type» x) ≡ type_ node_view x.value
 view_type x =

@@ -65,6 +65,8 @@ use Rattle.node_patterns.specs.declared.kinds.PatType.{PatType}
 use Rattle.node_patterns.specs.declared.kinds.PatWild.{PatWild}
 use Rattle.node_patterns.specs.declared.Pat.{Pat}
 use mathlib.Core.Logic.{inl, inr}
+use Rattle.std.specs.declared.alloc.Global.{Global}
+use Rattle.std.specs.declared.boxed.Box.{Box}
 use Rattle.syn_kinds.specs.declared.punctuation.Punctuation.{Punctuation}
 use Rattle.node_tree.specs.declared.item.Item.TheShapes as shapes
 use Rattle.node_tree.proofs.Words.{either, box_map, first_map, second_map, option_map, vec_map, punctuated_map}
@@ -140,8 +142,10 @@ pat_tuple_struct_map h x =
 abbrev pub pat_wild_map : {A B : Type 0} → (A → B) → PatWild A → PatWild B
 pat_wild_map h x = record { attrs = vec_map (attribute_map h) x.attrs; underscore_token = x.underscore_token }
 
-abbrev pub pat_map : {A B : Type 0} → (A → B) → Pat A → Pat B
-pat_map {A} {B} = (shapes.former-Node-Pat-0).map A B
+-- in the box that a node has
+abbrev pub pat_map : {A B C : Type 0} → (A → B) → Box C Global → Pat A → Pat B
+pat_map {A} {B} h b x =
+    ((shapes.former-Node-Pat-0).map A B h (record { ptr = b.ptr; alloc = b.alloc; value = x })).value
 
 abbrev pub arm_map : {A B : Type 0} → (A → B) → Arm A → Arm B
 arm_map h x =
@@ -378,5 +382,7 @@ expr_yield_map h x =
     record { attrs = vec_map (attribute_map h) x.attrs; yield_token = x.yield_token;
     expr = option_map h x.expr }
 
-abbrev pub expr_map : {A B : Type 0} → (A → B) → Expr A → Expr B
-expr_map {A} {B} = (shapes.former-Node-Expr-0).map A B
+-- in the box that a node has
+abbrev pub expr_map : {A B C : Type 0} → (A → B) → Box C Global → Expr A → Expr B
+expr_map {A} {B} h b x =
+    ((shapes.former-Node-Expr-0).map A B h (record { ptr = b.ptr; alloc = b.alloc; value = x })).value

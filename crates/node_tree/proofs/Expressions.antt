@@ -3,6 +3,7 @@ use Rattle.std.specs.declared.boxed.Box.{Box}
 use Rattle.std.specs.Prelude.{◌≡◌, None, Option, Some}
 use mathlib.Core.Path.{refl}
 use Rattle.proc_macro2.specs.declared.delimiter.Delimiter.TheVariants as delimiter
+use Rattle.std.specs.declared.alloc.Global.{Global}
 use Rattle.syn_grammar.specs.Kind as k
 use Rattle.syn_grammar.specs.Kind.{Kind}
 use Rattle.syn_grammar.specs.Name as n
@@ -214,7 +215,7 @@ expr_for_loop_mapped h x =
     i))
 
 pub else_branch_mapped :
-    {A G : Type 0} (h : A → Tree) (x : Keyword 12 × Box A G)
+    {A : Type 0} (h : A → Tree) (x : Keyword 12 × A)
     → else_branch (λ y. y) (second_map h x) ≡ else_branch h x
 else_branch_mapped h x = refl
 
@@ -225,7 +226,7 @@ expr_if_mapped h x =
     (else_branch (λ y. y)) (else_branch_mapped h) x.else_branch i))
 
 pub guard_mapped :
-    {A G : Type 0} (h : A → Tree) (x : Keyword 19 × Box A G)
+    {A : Type 0} (h : A → Tree) (x : Keyword 19 × A)
     → guard (λ y. y) (second_map h x) ≡ guard h x
 guard_mapped h x = refl
 
@@ -348,19 +349,19 @@ pub a_field_value_mapped :
 a_field_value_mapped h x = λ i. t.Node k.AFieldValue (t.Second (field_value_mapped h x i))
 
 pub base_mapped :
-    {A G : Type 0} (h : A → Tree) (x : Option (Box A G))
+    {A : Type 0} (h : A → Tree) (x : Option A)
     → base (λ y. y) (option_map h x) ≡ base h x
 base_mapped h None = refl
 base_mapped h (Some x) = refl
 
 pub field_base_mapped :
-    {A G : Type 0} (h : A → Tree) (m : Option (Punctuation 10 2)) (x : Option (Box A G))
+    {A : Type 0} (h : A → Tree) (m : Option (Punctuation 10 2)) (x : Option A)
     → field_base (λ y. y) m (option_map h x) ≡ field_base h m x
 field_base_mapped h m x = λ i. t.Node k.AFieldValue (t.First (n.the_base ∶ (mark_or m ▸ base_mapped h x i)))
 
 pub fields_then_mapped :
-    {A P G : Type 0} (h : A → Tree) (l : Punctuated (FieldValue A) P) (m : Option (Punctuation 10 2))
-    (x : Option (Box A G))
+    {A P : Type 0} (h : A → Tree) (l : Punctuated (FieldValue A) P) (m : Option (Punctuation 10 2))
+    (x : Option A)
     → fields_then (λ y. y) (punctuated_map (field_value_map h) l) m (option_map h x) ≡ fields_then h l m x
 fields_then_mapped h l None None =
     listed_mapped 44 (field_value_map h) (a_field_value h) (a_field_value (λ y. y)) (a_field_value_mapped h)
@@ -402,7 +403,7 @@ expr_raw_addr_mapped h x =
 -- jumps: the operand may be missing
 
 pub jump_mapped :
-    {A G : Type 0} (h : A → Tree) (i : Kind) (p p' : Tree) → p ≡ p' → (x : Option (Box A G))
+    {A : Type 0} (h : A → Tree) (i : Kind) (p p' : Tree) → p ≡ p' → (x : Option A)
     → jump (λ y. y) i p (option_map h x) ≡ jump h i p' x
 jump_mapped h i p p' ep None = λ j. t.Alone i (ep j)
 jump_mapped h i p p' ep (Some x) = λ j. t.Front i (ep j) (h x)
@@ -458,44 +459,46 @@ expr_binary_mapped h x =
     attributed_mapped h x.attrs.items _ _ (λ i. t.Infix (h x.left) (bin_op_kind x.op) (bin_op x.op)
     (h x.right))
 
-pub expr_mapped : {A : Type 0} (h : A → Tree) (x : Expr A) → expr (λ y. y) (expr_map h x) ≡ expr h x
-expr_mapped h (exprs.Array x) = expr_array_mapped h x
-expr_mapped h (exprs.Assign x) = expr_assign_mapped h x
-expr_mapped h (exprs.Async x) = expr_async_mapped h x
-expr_mapped h (exprs.Await x) = expr_await_mapped h x
-expr_mapped h (exprs.Binary x) = expr_binary_mapped h x
-expr_mapped h (exprs.Block x) = expr_block_mapped h x
-expr_mapped h (exprs.Break x) = expr_break_mapped h x
-expr_mapped h (exprs.Call x) = expr_call_mapped h x
-expr_mapped h (exprs.Cast x) = expr_cast_mapped h x
-expr_mapped h (exprs.Closure x) = expr_closure_mapped h x
-expr_mapped h (exprs.Const x) = expr_const_mapped h x
-expr_mapped h (exprs.Continue x) = expr_continue_mapped h x
-expr_mapped h (exprs.Field x) = expr_field_mapped h x
-expr_mapped h (exprs.ForLoop x) = expr_for_loop_mapped h x
-expr_mapped h (exprs.Group x) = expr_group_mapped h x
-expr_mapped h (exprs.If x) = expr_if_mapped h x
-expr_mapped h (exprs.Index x) = expr_index_mapped h x
-expr_mapped h (exprs.Infer x) = expr_infer_mapped h x
-expr_mapped h (exprs.Let x) = expr_let_mapped h x
-expr_mapped h (exprs.Lit x) = expr_lit_mapped h x
-expr_mapped h (exprs.Loop x) = expr_loop_mapped h x
-expr_mapped h (exprs.Macro x) = expr_macro_mapped h x
-expr_mapped h (exprs.Match x) = expr_match_mapped h x
-expr_mapped h (exprs.MethodCall x) = expr_method_call_mapped h x
-expr_mapped h (exprs.Paren x) = expr_paren_mapped h x
-expr_mapped h (exprs.Path x) = expr_path_mapped h x
-expr_mapped h (exprs.Range x) = expr_range_mapped h x
-expr_mapped h (exprs.RawAddr x) = expr_raw_addr_mapped h x
-expr_mapped h (exprs.Reference x) = expr_reference_mapped h x
-expr_mapped h (exprs.Repeat x) = expr_repeat_mapped h x
-expr_mapped h (exprs.Return x) = expr_return_mapped h x
-expr_mapped h (exprs.Struct x) = expr_struct_mapped h x
-expr_mapped h (exprs.Try x) = expr_try_mapped h x
-expr_mapped h (exprs.TryBlock x) = expr_try_block_mapped h x
-expr_mapped h (exprs.Tuple x) = expr_tuple_mapped h x
-expr_mapped h (exprs.Unary x) = expr_unary_mapped h x
-expr_mapped h (exprs.Unsafe x) = expr_unsafe_mapped h x
-expr_mapped h (exprs.Verbatim ts) = refl
-expr_mapped h (exprs.While x) = expr_while_mapped h x
-expr_mapped h (exprs.Yield x) = expr_yield_mapped h x
+pub expr_mapped :
+    {A C : Type 0} (h : A → Tree) (b : Box C Global) (x : Expr A)
+    → expr (λ y. y) (expr_map h b x) ≡ expr h x
+expr_mapped h b (exprs.Array x) = expr_array_mapped h x
+expr_mapped h b (exprs.Assign x) = expr_assign_mapped h x
+expr_mapped h b (exprs.Async x) = expr_async_mapped h x
+expr_mapped h b (exprs.Await x) = expr_await_mapped h x
+expr_mapped h b (exprs.Binary x) = expr_binary_mapped h x
+expr_mapped h b (exprs.Block x) = expr_block_mapped h x
+expr_mapped h b (exprs.Break x) = expr_break_mapped h x
+expr_mapped h b (exprs.Call x) = expr_call_mapped h x
+expr_mapped h b (exprs.Cast x) = expr_cast_mapped h x
+expr_mapped h b (exprs.Closure x) = expr_closure_mapped h x
+expr_mapped h b (exprs.Const x) = expr_const_mapped h x
+expr_mapped h b (exprs.Continue x) = expr_continue_mapped h x
+expr_mapped h b (exprs.Field x) = expr_field_mapped h x
+expr_mapped h b (exprs.ForLoop x) = expr_for_loop_mapped h x
+expr_mapped h b (exprs.Group x) = expr_group_mapped h x
+expr_mapped h b (exprs.If x) = expr_if_mapped h x
+expr_mapped h b (exprs.Index x) = expr_index_mapped h x
+expr_mapped h b (exprs.Infer x) = expr_infer_mapped h x
+expr_mapped h b (exprs.Let x) = expr_let_mapped h x
+expr_mapped h b (exprs.Lit x) = expr_lit_mapped h x
+expr_mapped h b (exprs.Loop x) = expr_loop_mapped h x
+expr_mapped h b (exprs.Macro x) = expr_macro_mapped h x
+expr_mapped h b (exprs.Match x) = expr_match_mapped h x
+expr_mapped h b (exprs.MethodCall x) = expr_method_call_mapped h x
+expr_mapped h b (exprs.Paren x) = expr_paren_mapped h x
+expr_mapped h b (exprs.Path x) = expr_path_mapped h x
+expr_mapped h b (exprs.Range x) = expr_range_mapped h x
+expr_mapped h b (exprs.RawAddr x) = expr_raw_addr_mapped h x
+expr_mapped h b (exprs.Reference x) = expr_reference_mapped h x
+expr_mapped h b (exprs.Repeat x) = expr_repeat_mapped h x
+expr_mapped h b (exprs.Return x) = expr_return_mapped h x
+expr_mapped h b (exprs.Struct x) = expr_struct_mapped h x
+expr_mapped h b (exprs.Try x) = expr_try_mapped h x
+expr_mapped h b (exprs.TryBlock x) = expr_try_block_mapped h x
+expr_mapped h b (exprs.Tuple x) = expr_tuple_mapped h x
+expr_mapped h b (exprs.Unary x) = expr_unary_mapped h x
+expr_mapped h b (exprs.Unsafe x) = expr_unsafe_mapped h x
+expr_mapped h b (exprs.Verbatim ts) = refl
+expr_mapped h b (exprs.While x) = expr_while_mapped h x
+expr_mapped h b (exprs.Yield x) = expr_yield_mapped h x

@@ -63,7 +63,7 @@ fn_arg_mapped h (args.Receiver x) = receiver_mapped h x
 fn_arg_mapped h (args.Typed x) = typed_mapped h x
 
 pub dots_mapped :
-    {A G : Type 0} (h : A → Tree) (x : Option (Box A G × Punctuation 6 1)) (m : Punctuation 11 3)
+    {A : Type 0} (h : A → Tree) (x : Option (A × Punctuation 6 1)) (m : Punctuation 11 3)
     → dots (λ y. y) (option_map (first_map h) x) m ≡ dots h x m
 dots_mapped h None m = refl
 dots_mapped h (Some p) m = refl

@@ -93,7 +93,7 @@ fields_map h x =
 abbrev pub ReceiverKindCases : Type 0 → Type 0
 ReceiverKindCases A =
     Unit {0} ⊎ ((Punctuation 0 1 × (Option Lifetime × (Option (Keyword 28) × Unit {0}))) ⊎
-    ((Punctuation 6 1 × (Box A Global × Unit {0})) ⊎ ⊥))
+    ((Punctuation 6 1 × (A × Unit {0})) ⊎ ⊥))
 
 abbrev pub receiver_kind_split : {A : Type 0} → ReceiverKind A → ReceiverKindCases A
 receiver_kind_split receivers.Value = inl tt

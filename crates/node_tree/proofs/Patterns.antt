@@ -2,6 +2,7 @@
 use Rattle.std.specs.declared.boxed.Box.{Box}
 use Rattle.std.specs.Prelude.{◌∷◌, ◌≡◌, [], List, map, None, Option, Some, ℕ}
 use mathlib.Core.Path.{refl}
+use Rattle.std.specs.declared.alloc.Global.{Global}
 use Rattle.syn_grammar.specs.Kind as k
 use Rattle.syn_grammar.specs.Name as n
 use Rattle.syn_grammar.specs.Tree as t
@@ -49,7 +50,7 @@ pub behind_attributes_mapped :
 behind_attributes_mapped h a p p' ep = λ i. behind_turns (outer_turns_mapped h a i) (ep i)
 
 pub subpattern_mapped :
-    {A G : Type 0} (h : A → Tree) (x : Punctuation 3 1 × Box A G)
+    {A : Type 0} (h : A → Tree) (x : Punctuation 3 1 × A)
     → subpattern (λ y. y) (second_map h x) ≡ subpattern h x
 subpattern_mapped h x = refl
 
@@ -127,7 +128,7 @@ pat_tuple_struct_mapped h x =
 -- ranges
 
 pub held_mapped :
-    {A G : Type 0} (h : A → Tree) (x : Option (Box A G))
+    {A : Type 0} (h : A → Tree) (x : Option A)
     → held (λ y. y) (option_map h x) ≡ held h x
 held_mapped h None = refl
 held_mapped h (Some x) = refl
@@ -207,18 +208,20 @@ pat_type_mapped h x =
     λ i. t.Node k.ClosureParam (outer_attributes_mapped h x.attrs.items i ▸ h x.pat ▸ t.First
     (mark x.colon_token ▸ h x.ty))
 
-pub pat_mapped : {A : Type 0} (h : A → Tree) (x : Pat A) → pat (λ y. y) (pat_map h x) ≡ pat h x
-pat_mapped h (pats.«Ident» x) = pat_ident_mapped h x
-pat_mapped h (pats.Lit x) = pat_lit_mapped h x
-pat_mapped h (pats.Or x) = pat_or_mapped h x
-pat_mapped h (pats.Paren x) = pat_paren_mapped h x
-pat_mapped h (pats.Path x) = pat_path_mapped h x
-pat_mapped h (pats.Range x) = pat_range_mapped h x
-pat_mapped h (pats.Reference x) = pat_reference_mapped h x
-pat_mapped h (pats.Rest x) = pat_rest_mapped h x
-pat_mapped h (pats.Slice x) = pat_slice_mapped h x
-pat_mapped h (pats.Struct x) = pat_struct_mapped h x
-pat_mapped h (pats.Tuple x) = pat_tuple_mapped h x
-pat_mapped h (pats.TupleStruct x) = pat_tuple_struct_mapped h x
-pat_mapped h (pats.«Type» x) = pat_type_mapped h x
-pat_mapped h (pats.Wild x) = pat_wild_mapped h x
+pub pat_mapped :
+    {A C : Type 0} (h : A → Tree) (b : Box C Global) (x : Pat A)
+    → pat (λ y. y) (pat_map h b x) ≡ pat h x
+pat_mapped h b (pats.«Ident» x) = pat_ident_mapped h x
+pat_mapped h b (pats.Lit x) = pat_lit_mapped h x
+pat_mapped h b (pats.Or x) = pat_or_mapped h x
+pat_mapped h b (pats.Paren x) = pat_paren_mapped h x
+pat_mapped h b (pats.Path x) = pat_path_mapped h x
+pat_mapped h b (pats.Range x) = pat_range_mapped h x
+pat_mapped h b (pats.Reference x) = pat_reference_mapped h x
+pat_mapped h b (pats.Rest x) = pat_rest_mapped h x
+pat_mapped h b (pats.Slice x) = pat_slice_mapped h x
+pat_mapped h b (pats.Struct x) = pat_struct_mapped h x
+pat_mapped h b (pats.Tuple x) = pat_tuple_mapped h x
+pat_mapped h b (pats.TupleStruct x) = pat_tuple_struct_mapped h x
+pat_mapped h b (pats.«Type» x) = pat_type_mapped h x
+pat_mapped h b (pats.Wild x) = pat_wild_mapped h x

@@ -36,7 +36,7 @@ let_value_mapped m None x = refl
 let_value_mapped m (Some d) x = refl
 
 pub diverge_mapped :
-    {A G : Type 0} (h : A → Tree) (x : Keyword 12 × Box A G)
+    {A : Type 0} (h : A → Tree) (x : Keyword 12 × A)
     → diverge (λ y. y) (second_map h x) ≡ diverge h x
 diverge_mapped h x = refl
 

@@ -96,7 +96,7 @@ attribute_map h x =
     record { pound_token = x.pound_token; style = x.style; bracket_token = x.bracket_token; meta = h x.meta }
 
 abbrev pub ReturnTypeCases : Type 0 → Type 0
-ReturnTypeCases A = Unit {0} ⊎ ((Punctuation 35 2 × (Box A Global × Unit {0})) ⊎ ⊥)
+ReturnTypeCases A = Unit {0} ⊎ ((Punctuation 35 2 × (A × Unit {0})) ⊎ ⊥)
 
 abbrev pub return_type_split : {A : Type 0} → ReturnType A → ReturnTypeCases A
 return_type_split returns.Default = inl tt

@@ -4,11 +4,8 @@
 //! - `file`: files; `item`: items.
 //! - `node`: what closes the recursion.
 //! - `below` (private): what makes the nodes in one; `made`: the node that a tree is.
-//! - `reads` (private): what is read from a stream; `reads_paths`, `reads_types`, `reads_generics`, `reads_expressions`,
-//!   `reads_items`, `reads_members`: of each type the kind that is read, and what makes it of a tree.
-//! - `to_tree` (private): nodes and items as trees; `prints` (private): what is printed of nodes and of what they stand
-//!   in; `prints_paths`, `prints_types`, `prints_generics`, `prints_patterns`, `prints_forms`, `prints_bodies`,
-//!   `prints_items`, `prints_members`: of each type the tree that is printed.
+//! - `reads` (private): items and files that are read from a stream.
+//! - `to_tree` (private): nodes and items as trees; `prints` (private): items and files that are printed.
 #![tactic(auto)]
 
 // What makes the nodes in the tree that it is given.
@@ -31,21 +28,7 @@ pub mod item;
 pub mod made;
 pub mod node;
 mod prints;
-mod prints_bodies;
-mod prints_forms;
-mod prints_generics;
-mod prints_items;
-mod prints_members;
-mod prints_paths;
-mod prints_patterns;
-mod prints_types;
 mod reads;
-mod reads_expressions;
-mod reads_generics;
-mod reads_items;
-mod reads_members;
-mod reads_paths;
-mod reads_types;
 mod to_tree;
 
 pub use file::File;

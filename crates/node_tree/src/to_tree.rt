@@ -27,6 +27,7 @@ use std::alloc::AllocError;
 impl ToTree for Node {
     ghost tree = { node_view };
 
+    #[cycle(trees)]
     fn to_tree<'a>(&'a self, arena: &'a Arena) -> Result<Tree<'a>, AllocError> {
         match self {
             Node::Expr(node) => expr(arena, &**node),
@@ -42,6 +43,7 @@ impl ToTree for Node {
 impl ToTree for Item {
     ghost tree = { item_view };
 
+    #[cycle(trees)]
     fn to_tree<'a>(&'a self, arena: &'a Arena) -> Result<Tree<'a>, AllocError> {
         match self {
             Item::Const(node) => item_const(arena, node),

@@ -1,15 +1,13 @@
 //! Expressions and what stands in them, as they are read.
 
-ghost use Rattle.node_tree.specs.Views.{node_view};
-ghost use Rattle.node_tree.specs.Wholes.{whole};
+ghost use Rattle.node_reads.specs.Wholes.{whole};
 ghost use Rattle.node_views.specs.Expressions as expressions;
 ghost use Rattle.node_views.specs.Singles as singles;
 ghost use Rattle.node_views.specs.Statements as statements;
 ghost use Rattle.syn_grammar.specs.Kind as k;
 
-use crate::below::Below;
-use crate::made::{attributed_pattern, node, statement};
-use crate::node::Node;
+use crate::grown::{Grown, Inside};
+use crate::TreeReader;
 use node_expressions::atom::FieldValue;
 use node_expressions::block::Block;
 use node_expressions::branch::Arm;
@@ -26,73 +24,73 @@ use reader_table::kind::{Kind, Position};
 use reader_tree::tree::Tree;
 use std::alloc::{AllocError, Global};
 
-impl Makes<Expr<Node>> for Node {
+impl<E: Grown> Makes<Expr<E>> for TreeReader<E> {
     ghost kind = { k.Expression k.Plain };
 
-    ghost view = { whole };
+    ghost view = { whole E.view };
 
     fn kind() -> Kind {
         Kind::Expression(Position::Plain)
     }
 
-    fn make(alloc: Global, tree: &Tree<'_>) -> Result<Expr<Node>, AllocError> {
+    fn make(alloc: Global, tree: &Tree<'_>) -> Result<Expr<E>, AllocError> {
         let inside = take::whole(take::node(Kind::Expression(Position::Plain), tree));
-        form(&inside!(alloc, tree), inside)
+        form(&Inside::new(alloc, tree), inside)
     }
 }
 
-impl Makes<Block<Node>> for Node {
+impl<E: Grown> Makes<Block<E>> for TreeReader<E> {
     ghost kind = { k.Block };
 
-    ghost view = { statements.block node_view };
+    ghost view = { statements.block E.view };
 
     fn kind() -> Kind {
         Kind::Block
     }
 
-    fn make(alloc: Global, tree: &Tree<'_>) -> Result<Block<Node>, AllocError> {
-        block(&inside!(alloc, tree), tree)
+    fn make(alloc: Global, tree: &Tree<'_>) -> Result<Block<E>, AllocError> {
+        block(&Inside::new(alloc, tree), tree)
     }
 }
 
-impl Makes<Arm<Node>> for Node {
+impl<E: Grown> Makes<Arm<E>> for TreeReader<E> {
     ghost kind = { k.Arm };
 
-    ghost view = { expressions.arm node_view };
+    ghost view = { expressions.arm E.view };
 
     fn kind() -> Kind {
         Kind::Arm
     }
 
-    fn make(alloc: Global, tree: &Tree<'_>) -> Result<Arm<Node>, AllocError> {
-        arm(&inside!(alloc, tree), tree)
+    fn make(alloc: Global, tree: &Tree<'_>) -> Result<Arm<E>, AllocError> {
+        arm(&Inside::new(alloc, tree), tree)
     }
 }
 
-impl Makes<FieldValue<Node>> for Node {
+impl<E: Grown> Makes<FieldValue<E>> for TreeReader<E> {
     ghost kind = { k.FieldValue };
 
-    ghost view = { expressions.field_value node_view };
+    ghost view = { expressions.field_value E.view };
 
     fn kind() -> Kind {
         Kind::FieldValue
     }
 
-    fn make(alloc: Global, tree: &Tree<'_>) -> Result<FieldValue<Node>, AllocError> {
-        field_value(&inside!(alloc, tree), tree)
+    fn make(alloc: Global, tree: &Tree<'_>) -> Result<FieldValue<E>, AllocError> {
+        field_value(&Inside::new(alloc, tree), tree)
     }
 }
 
-impl Makes<Stmt<Node>> for Node {
+impl<E: Grown> Makes<Stmt<E>> for TreeReader<E> {
     ghost kind = { k.OneStatement };
 
-    ghost view = { singles.one_stmt node_view };
+    ghost view = { singles.one_stmt E.view };
 
     fn kind() -> Kind {
         Kind::OneStatement
     }
 
-    fn make(alloc: Global, tree: &Tree<'_>) -> Result<Stmt<Node>, AllocError> {
-        one_stmt(&inside!(alloc, tree), tree)
+    fn make(alloc: Global, tree: &Tree<'_>) -> Result<Stmt<E>, AllocError> {
+        one_stmt(&Inside::new(alloc, tree), tree)
     }
 }
