@@ -1,6 +1,6 @@
 //! Items as trees that are printed.
 
-ghost use Rattle.node_views.specs.Data as data;
+ghost use Rattle.node_views.specs.Data as structs;
 ghost use Rattle.node_views.specs.Imports as imports;
 ghost use Rattle.node_views.specs.Items as items;
 ghost use Rattle.node_views.specs.Members as members;
@@ -32,7 +32,7 @@ use reader_tree::tree::Tree;
 use std::alloc::AllocError;
 
 impl<E: ToTree> Trees<DeriveInput<E>> for TreePrinter<E> {
-    ghost view = { data.derive_input E.tree };
+    ghost view = { structs.derive_input E.tree };
 
     fn tree<'a>(value: &'a DeriveInput<E>, arena: &'a Arena) -> Result<Tree<'a>, AllocError> {
         derive_input(arena, value)

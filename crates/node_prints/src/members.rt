@@ -1,6 +1,6 @@
 //! What stands in items, as trees that are printed.
 
-ghost use Rattle.node_views.specs.Data as data;
+ghost use Rattle.node_views.specs.Data as structs;
 ghost use Rattle.node_views.specs.Functions as functions;
 ghost use Rattle.node_views.specs.Members as members;
 
@@ -30,7 +30,7 @@ use reader_tree::tree::Tree;
 use std::alloc::AllocError;
 
 impl<E: ToTree> Trees<Field<E>> for TreePrinter<E> {
-    ghost view = { data.field E.tree };
+    ghost view = { structs.field E.tree };
 
     fn tree<'a>(value: &'a Field<E>, arena: &'a Arena) -> Result<Tree<'a>, AllocError> {
         field(arena, value)
@@ -38,7 +38,7 @@ impl<E: ToTree> Trees<Field<E>> for TreePrinter<E> {
 }
 
 impl<E: ToTree> Trees<FieldsNamed<E>> for TreePrinter<E> {
-    ghost view = { data.fields_named E.tree };
+    ghost view = { structs.fields_named E.tree };
 
     fn tree<'a>(value: &'a FieldsNamed<E>, arena: &'a Arena) -> Result<Tree<'a>, AllocError> {
         fields_named(arena, value)
@@ -46,7 +46,7 @@ impl<E: ToTree> Trees<FieldsNamed<E>> for TreePrinter<E> {
 }
 
 impl<E: ToTree> Trees<FieldsUnnamed<E>> for TreePrinter<E> {
-    ghost view = { data.fields_unnamed E.tree };
+    ghost view = { structs.fields_unnamed E.tree };
 
     fn tree<'a>(value: &'a FieldsUnnamed<E>, arena: &'a Arena) -> Result<Tree<'a>, AllocError> {
         fields_unnamed(arena, value)
@@ -215,7 +215,7 @@ impl<E: ToTree> Trees<Variadic<E>> for TreePrinter<E> {
 }
 
 impl<E: ToTree> Trees<Variant<E>> for TreePrinter<E> {
-    ghost view = { data.variant E.tree };
+    ghost view = { structs.variant E.tree };
 
     fn tree<'a>(value: &'a Variant<E>, arena: &'a Arena) -> Result<Tree<'a>, AllocError> {
         variant(arena, value)

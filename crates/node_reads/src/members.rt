@@ -1,6 +1,6 @@
 //! What stands in items, as it is read.
 
-ghost use Rattle.node_views.specs.Data as data;
+ghost use Rattle.node_views.specs.Data as structs;
 ghost use Rattle.node_views.specs.Functions as functions;
 ghost use Rattle.node_views.specs.Members as members;
 ghost use Rattle.node_views.specs.Singles as singles;
@@ -244,7 +244,7 @@ impl<E: Grown> Makes<ImplItem<E>> for TreeReader<E> {
 impl<E: Grown> Makes<FieldsNamed<E>> for TreeReader<E> {
     ghost kind = { k.NamedFields };
 
-    ghost view = { data.fields_named E.view };
+    ghost view = { structs.fields_named E.view };
 
     fn kind() -> Kind {
         Kind::NamedFields
@@ -258,7 +258,7 @@ impl<E: Grown> Makes<FieldsNamed<E>> for TreeReader<E> {
 impl<E: Grown> Makes<FieldsUnnamed<E>> for TreeReader<E> {
     ghost kind = { k.UnnamedFields };
 
-    ghost view = { data.fields_unnamed E.view };
+    ghost view = { structs.fields_unnamed E.view };
 
     fn kind() -> Kind {
         Kind::UnnamedFields
@@ -272,7 +272,7 @@ impl<E: Grown> Makes<FieldsUnnamed<E>> for TreeReader<E> {
 impl<E: Grown> Makes<Variant<E>> for TreeReader<E> {
     ghost kind = { k.Variant };
 
-    ghost view = { data.variant E.view };
+    ghost view = { structs.variant E.view };
 
     fn kind() -> Kind {
         Kind::Variant
