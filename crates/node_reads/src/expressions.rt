@@ -33,6 +33,7 @@ impl<E: Grown> Makes<Expr<E>> for TreeReader<E> {
         Kind::Expression(Position::Plain)
     }
 
+    #[tactic(auto, unfolding(syn_grammar::specs::Table::table, syn_grammar::specs::Kept::held))]
     fn make(alloc: Global, tree: &Tree<'_>) -> Result<Expr<E>, AllocError> {
         let inside = take::whole(take::node(Kind::Expression(Position::Plain), tree));
         form(&Inside::new(alloc, tree), inside)

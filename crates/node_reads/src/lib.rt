@@ -1,12 +1,17 @@
 //! What is read from a stream of the types over one that closes their recursion: of each type the kind that is read, and
 //! what makes a value of its tree.
 //!
+//! - `closed`: what a type that closes the recursion is made of; `below`, `by`: what makes the nodes in a node, and the
+//!   node that a tree is by that.
 //! - `grown`: what is asked of the type that closes the recursion, and what makes the nodes in a tree by that.
 //! - `paths`, `types`, `generics`, `expressions`, `items`, `members` (private): of each type its kind and its maker.
 #![tactic(auto)]
 
 ghost use Rattle.syn_grammar.specs.Kind.{Kind};
 
+pub mod below;
+pub mod by;
+pub mod closed;
 mod expressions;
 mod generics;
 pub mod grown;
@@ -15,6 +20,7 @@ mod members;
 mod paths;
 mod types;
 
+pub use closed::Closed;
 pub use grown::{Grown, Inside};
 
 use node_read::Makes;

@@ -3,25 +3,12 @@
 //! - `convert` (private): structs as the enums that hold them.
 //! - `file`: files; `item`: items.
 //! - `node`: what closes the recursion.
-//! - `below` (private): what makes the nodes in one; `made`: the node that a tree is.
+//! - `closed` (private): what nodes and items are made of; `made`: the node that a tree is, the item and the file.
 //! - `reads` (private): items and files that are read from a stream.
 //! - `to_tree` (private): nodes and items as trees; `prints` (private): items and files that are printed.
 #![tactic(auto)]
 
-// What makes the nodes in the tree that it is given.
-macro_rules! inside {
-    ($alloc:expr, $tree:expr) => {
-        Below {
-            above: $tree,
-            alloc: $alloc,
-            node,
-            pattern: attributed_pattern,
-            statement,
-        }
-    };
-}
-
-mod below;
+mod closed;
 mod convert;
 pub mod file;
 pub mod item;

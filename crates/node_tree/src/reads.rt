@@ -14,22 +14,18 @@ ghost use Rattle.syn_grammar.specs.Gram.{ref};
 ghost use Rattle.syn_grammar.specs.Kept.{kept};
 ghost use Rattle.syn_grammar.specs.Kind as k;
 
-use crate::below::Below;
 use crate::file::File;
 use crate::item::Item;
 use crate::made;
-use crate::made::{attributed_pattern, node, statement};
 use crate::node::Node;
 use node_expressions::expr::Expr;
 use node_expressions::statement::Stmt;
 use node_from::What;
-use node_from_items::files::file_parts;
-use node_from_items::item::item;
 use node_paths::attribute::Attribute;
 use node_patterns::Pat;
 use node_prints::TreePrinter;
 use node_read::Makes;
-use node_reads::{Grown, TreeReader};
+use node_reads::{Closed, Grown, TreeReader};
 use node_traits::{Native, Reads};
 use reader_table::kind::Kind;
 use reader_tree::tree::Tree;
@@ -42,7 +38,6 @@ impl Native for Node {
     type Printer = TreePrinter<Node>;
 }
 
-#[tactic(auto, using(crate::proofs::Equations::node_equations))]
 impl Grown for Node {
     ghost view = { node_view };
 
@@ -56,13 +51,13 @@ impl Grown for Node {
     fn expression(alloc: Global, form: Expr<Node>) -> Result<Node, AllocError>
         ensures { IfOk result (λ x. node_view x ≡ expressions.expr node_view form) }
     {
-        Ok(Node::Expr(Box::new(alloc, form)?))
+        Node::of_expr(alloc, form)
     }
 
     fn pattern(alloc: Global, pattern: Pat<Node>) -> Result<Node, AllocError>
         ensures { IfOk result (λ x. node_view x ≡ patterns.pat node_view pattern) }
     {
-        Ok(Node::Pat(Box::new(alloc, pattern)?))
+        Node::of_pat(alloc, pattern)
     }
 
     fn attributed_pattern(
@@ -94,7 +89,7 @@ impl Makes<Item> for TreeReader<Node> {
     }
 
     fn make(alloc: Global, tree: &Tree<'_>) -> Result<Item, AllocError> {
-        item(&inside!(alloc, tree), tree)
+        made::item(alloc, tree)
     }
 }
 
@@ -119,13 +114,7 @@ impl Makes<File> for TreeReader<Node> {
     }
 
     fn make(alloc: Global, tree: &Tree<'_>) -> Result<File, AllocError> {
-        let (attrs, items) = file_parts(&inside!(alloc, tree), tree)?;
-        Ok(File {
-            shebang: None,
-            frontmatter: None,
-            attrs,
-            items,
-        })
+        made::file(alloc, tree)
     }
 }
 
