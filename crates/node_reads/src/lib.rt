@@ -1,5 +1,5 @@
-//! What is read from a stream of the types over one that closes their recursion: of each type the kind that is read, and
-//! what makes a value of its tree.
+//! What is read from a stream of the types over one that closes their recursion: of each type the kind that is read,
+//! and what makes a value of its tree.
 //!
 //! - `closed`: what a type that closes the recursion is made of; `below`, `by`: what makes the nodes in a node, and the
 //!   node that a tree is by that.

@@ -137,7 +137,8 @@ impl Node {
 
     /// A type, if it is one; `None` if it is something else.
     pub fn as_type(&self) -> Option<&Type<Node>>
-        ensures { MatchOption result ((x : _) → self.now ≡ nodes.«Type» x → ⊥) (λ x. Holds nodes.«Type» self.now x.now) }
+        ensures { MatchOption result ((x : _) → self.now ≡ nodes.«Type» x → ⊥)
+            (λ x. Holds nodes.«Type» self.now x.now) }
     {
         match self {
             Node::Type(node) => Some(&**node),
