@@ -23,6 +23,7 @@ use writer_read::as_read::put_as_read;
 ///
 /// Where there is no memory for it. The old tokens stand in front then too, perhaps with some of the tree's behind
 /// them.
+#[tactic(auto, using(syn_error::proofs::Fronts::keeps_same, syn_error::proofs::Fronts::keeps_added))]
 pub fn print_normal<'a>(
     arena: &'a Arena,
     tree: &Tree<'a>,

@@ -44,6 +44,7 @@ pub trait Trees<T> {
         ensures { IfOk result (λ x. x ≡ view value.now) };
 }
 
+#[tactic(auto, using(syn_error::proofs::Fronts::keeps_same))]
 impl<E: ToTree, T> Prints<T> for TreePrinter<E>
 where
     TreePrinter<E>: Trees<T>,
