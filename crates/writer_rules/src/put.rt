@@ -149,9 +149,10 @@ pub fn sign<'a>(
         ≡ map piece_token out.old.items ++ flat (mark_of (sign_text sign) spacing)) }
     ensures keeps { Keeps out.old.items out.new.items }
 {
-    match sign.text().as_bytes().split_first() {
-        None => Ok(()),
-        Some((first, others)) => marks(*first, others, spacing, span, out),
+    match sign.text().as_bytes() {
+        [] => Ok(()),
+        [mark] => one(Piece::Mark(*mark as char, spacing, span), out),
+        [first, others @ ..] => marks(*first, others, spacing, span, out),
     }
 }
 
