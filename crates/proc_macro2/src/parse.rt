@@ -5,13 +5,13 @@ ghost use Rattle.proc_macro2.specs.Held.{are_held};
 ghost use Rattle.proc_macro2.specs.declared.parse.Fault.TheVariants.{Memory};
 ghost use Rattle.rust_map.specs.declared.fault.LexFault.TheVariants.{Lex, MapFull};
 ghost use Rattle.rust_lex.specs.Piece.{IsJoint};
-ghost use Rattle.rust_lex.specs.Places.{IsPlace, rest_at};
+ghost use Rattle.rust_lex.specs.Places.{IsPieceAt, IsPlace, between_places, rest_at};
 ghost use Rattle.rust_lex.specs.declared.piece.PieceKind.TheVariants.{Mark};
 ghost use Rattle.rust_map.specs.Places.{place_of};
 ghost use Rattle.rust_map.specs.Sources.{next_position, next_span, next_spot, spot, with_text};
 ghost use Rattle.rust_map.specs.Spans.{span_part};
 ghost use Rattle.std.specs.Prelude.{◌≡◌, ◌≢◌, ◌+◌, ◌^◌, ◌<◌, ◌≤◌, ◌↔◌, Err, IfErr, IfOk, IfSome, IsTrue, None};
-ghost use Rattle.std.specs.Prelude.{OnErr, OnOk, Some, length};
+ghost use Rattle.std.specs.Prelude.{OnErr, OnOk, Some, length, option_map};
 ghost use Rattle.std.specs.Str.{chars};
 
 use crate::builder::{Builder, Stretch};
@@ -20,7 +20,7 @@ use crate::put::put;
 use crate::tree::TokenStream;
 use rust_leaf::text_table::TextTable;
 use rust_lex::piece::PieceKind;
-use rust_lex::scan::{is_joint, next_piece, white_end};
+use rust_lex::scan::{is_joint, narrow_piece, next_piece, white_end};
 use rust_map::characters;
 use rust_map::fault::{LexError, LexFault};
 use rust_map::source_map::SourceMap;
@@ -65,6 +65,41 @@ fn joint_at(text: &str, at: usize, kind: PieceKind) -> bool
     }
 }
 
+// A piece of a text: its class, the place behind it, how many characters it has, and of a mark whether it is joint.
+#[derive(Clone, Copy)]
+struct Found {
+    kind: PieceKind,
+    end: usize,
+    characters: usize,
+    joint: bool,
+}
+
+// The piece at a place of a text, the commonest ones by a short way. None: no piece begins there.
+#[inline(always)]
+fn found_at(text: &str, at: usize) -> Option<Found>
+    requires { IsPlace text.now at }
+    ensures piece { IsPieceAt text.now at (option_map (λ found. (found.kind, found.end)) result) }
+    ensures count { IfSome result (λ found. found.characters ≡ length (between_places text.now at found.end)) }
+    ensures joint { IfSome result (λ found. found.kind ≡ Mark
+        → (IsTrue found.joint ↔ IsJoint (rest_at text.now at))) }
+{
+    if let Some(piece) = narrow_piece(text, at) {
+        return Some(Found {
+            kind: piece.kind,
+            end: piece.end,
+            characters: piece.end - at,
+            joint: piece.is_joint,
+        });
+    }
+    let (kind, end) = next_piece(text, at)?;
+    Some(Found {
+        kind,
+        end,
+        characters: characters(&text[at..end]),
+        joint: joint_at(text, at, kind),
+    })
+}
+
 // The trees of a text. A span is given that begins where the text will, and ends no earlier than it.
 pub(crate) fn lex(alloc: Global, text: &str, whole: Span) -> Result<TokenStream, Fault>
     requires whole { whole.start + length (chars text.now) ≤ whole.end }
@@ -90,20 +125,19 @@ fn lex_with(table: &mut TextTable, text: &str, whole: Span) -> Result<TokenStrea
             count += 1;
             continue;
         }
-        let Some((kind, end)) = next_piece(text, at) else {
+        let Some(found) = found_at(text, at) else {
             return Err(Fault::Behind(count));
         };
-        let piece = &text[at..end];
+        let piece = &text[at..found.end];
         let there = Stretch {
             whole,
             from: count,
-            to: count + characters(piece) as u32,
+            to: count + found.characters as u32,
         };
-        let joint = joint_at(text, at, kind);
-        if !put(&mut builder, table, kind, piece, joint, there)? {
+        if !put(&mut builder, table, found.kind, piece, found.joint, there)? {
             return Err(Fault::Behind(count));
         }
-        at = end;
+        at = found.end;
         count = there.to;
     }
     match builder.finish()? {

@@ -15,6 +15,7 @@ pub mod OneCover
 pub mod Steps
 pub mod Scans
 pub mod Pieces
+pub mod NarrowPieces
 pub mod Characters
 pub mod Joints
 pub mod Covering

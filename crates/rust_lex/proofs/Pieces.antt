@@ -23,7 +23,7 @@ no_piece : (at : ℕ) (text : List ℕ) → scan_at at text ≡ Nowhere → NoPi
 no_piece at text e = λ k cs rest s f.
     (let h = complete_at at k cs rest f in let g : Nowhere ≡ Ends k rest = sym e ∙ ap (scan_at at) s ∙ h in cc)
 
-some_piece : (bytes : List ℕ) (at end : ℕ) (k : PieceKind) → IsPlace bytes at → scan_at at (rest_at bytes at)
+pub some_piece : (bytes : List ℕ) (at end : ℕ) (k : PieceKind) → IsPlace bytes at → scan_at at (rest_at bytes at)
     ≡ Ends k (rest_at bytes end) → IsBehind bytes at end → FitsAt at k (between_places bytes at end) (rest_at bytes end)
 some_piece bytes at end k p e b =
     let f = sound_at at (rest_at bytes at) (rest_at bytes end) k e in

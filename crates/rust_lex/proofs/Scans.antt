@@ -1,9 +1,10 @@
 -- What a scan finds, case by case.
 use Rattle.std.proofs.Common.{◌≡◌, ℕ, List, [], ◌∷◌, ◌++◌, arith, length, length-append, drop, refl, sym, ap, ◌∙◌}
 use Rattle.std.proofs.Common.{subst, ⊎_elim}
-use Rattle.std.specs.Prelude.{true, false, ◌&&◌, ◌||◌, ◌==◌, Some, None}
-use Rattle.std.proofs.lemmas.Bool.{cases_eq, or_parts}
-use Rattle.rust_lex.specs.Chars.{is_next, is_digit, is_mark_but_tick, begins, past}
+use Rattle.std.specs.Prelude.{true, false, not, ◌&&◌, ◌||◌, ◌==◌, Some, None}
+use Rattle.std.proofs.Math.Bool.{or-false}
+use Rattle.std.proofs.lemmas.Bool.{cases_eq, ne_eqb, or_parts}
+use Rattle.rust_lex.specs.Chars.{is_next, is_digit, is_mark_but_tick, is_slash_or_star, begins, past}
 use Rattle.rust_escape.specs.declared.mode.Mode.{Mode}
 use Rattle.rust_escape.specs.declared.mode.Mode.TheVariants as modes
 use Rattle.rust_lex.specs.Quoted.{literal_kind, opening_of, opener_of}
@@ -12,8 +13,9 @@ use Rattle.rust_lex.specs.Word.{begins_raw_mark, begins_raw_name, begins_lifetim
 use Rattle.rust_lex.specs.Number.{past_number}
 use Rattle.rust_lex.specs.Ended.{IsFrom}
 use Rattle.rust_lex.specs.Places.{rest_at, IsBehind}
-use Rattle.rust_lex.specs.Piece.{Mark, Ident}
+use Rattle.rust_lex.specs.Piece.{Mark, Ident, begins_mark}
 use Rattle.rust_lex.specs.Scan.{Front, first, digit, front_of, Nowhere, Ends, suffixed, ticked, word}
+use Rattle.rust_lex.specs.Scan.{begins_char, is_mark_or_opening}
 use Rattle.rust_lex.proofs.PlacesLemmas.{rest_end}
 use Rattle.rust_lex.proofs.Fronts.{Says, front_says}
 use Rattle.rust_lex.proofs.Ends.{past_word, number_found}
@@ -110,4 +112,16 @@ pub tick_no_mark : (c : ℕ) → c ≡ 39 → is_mark_but_tick c ≡ false
 unfolding is_mark_but_tick
 tick_no_mark c e = rw e refl
 
-pub ruleset marks = (rest_end, tick_no_mark)
+-- behind a mark a quote may be a mark or begin a character literal
+pub joint_tick : (d : ℕ) (ds : List ℕ) → d ≡ 39 → (begins_mark (d ∷ ds) || begins_char (d ∷ ds)) ≡ is_mark_or_opening ds
+joint_tick d ds e = rw (e, tick_no_mark 39 refl) refl
+
+-- and another character may be a mark
+pub joint_other : (d : ℕ) (ds : List ℕ) → (d ≡ 39 → ⊥)
+    → (begins_mark (d ∷ ds) || begins_char (d ∷ ds))
+    ≡ (is_mark_but_tick d && not (d == 47 && begins is_slash_or_star ds))
+joint_other d ds n =
+    let mark = is_mark_but_tick d && not (d == 47 && begins is_slash_or_star ds) in
+    rw (ne_eqb d 39 n) (ap (λ b. b || false) (or-false mark) ∙ or-false mark)
+
+pub ruleset joints = (rest_end, joint_tick, joint_other)

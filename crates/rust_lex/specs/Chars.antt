@@ -2,7 +2,7 @@
 use Rattle.std.specs.Prelude.{ℕ, Bool, true, false, ◌&&◌, ◌||◌, ◌==◌, not, nat_lt, List, [], ◌∷◌}
 use Rattle.std.specs.Char.{is_ascii_digit}
 use Rattle.unicode_ident.specs.Ident.{is_xid_start, is_xid_continue}
-pub use Rattle.text_chars.specs.Chars.{is_among, begins, passes, past, is_line_feed, is_underscore}
+pub use Rattle.text_chars.specs.Chars.{is_among, begins, passes, past, narrow, is_line_feed, is_underscore}
 
 -- the white characters of Unicode, and the marks U+200E and U+200F of a text's direction
 abbrev pub whites : List ℕ
@@ -23,6 +23,14 @@ is_first c = is_xid_start c || c == 95
 -- and goes on with XID_Continue
 unfoldable pub is_next : ℕ → Bool
 is_next c = is_xid_continue c
+
+-- b c r, which prefixes of literals begin with
+abbrev pub begins_prefix : ℕ → Bool
+begins_prefix c = c == 98 || (c == 99 || c == 114)
+
+-- a character that isn't of ASCII
+abbrev pub is_wide : ℕ → Bool
+is_wide c = not (nat_lt c 128)
 
 unfoldable pub is_digit : ℕ → Bool
 is_digit c = is_ascii_digit c

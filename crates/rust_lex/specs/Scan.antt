@@ -2,6 +2,7 @@
 use Rattle.std.specs.Prelude.{ℕ, zero, suc, Bool, true, false, ◌&&◌, ◌||◌, ◌==◌, not, is_some, List, [], ◌∷◌}
 use Rattle.std.specs.Prelude.{Option, Some, None, if◌then◌else◌, drop, length}
 use Rattle.rust_lex.specs.Chars.{is_white, is_first, is_next, is_digit, is_mark_but_tick, is_not_feed, past}
+use Rattle.rust_lex.specs.Chars.{begins, begins_prefix, is_wide, narrow}
 use Rattle.rust_lex.specs.Ends.{past_suffix}
 use Rattle.rust_lex.specs.Comment.{OuterLine, InnerLine, OuterBlock, InnerBlock, is_plain_line, is_plain_block}
 use Rattle.rust_lex.specs.Comment.{past_comment, is_within_line, ends_line}
@@ -110,10 +111,36 @@ abbrev pub begins_char : List ℕ → Bool
 begins_char [] = false
 begins_char (c ∷ cs) = c == 39 && is_some (past_char modes.Char cs)
 
+-- a ' before a text is a mark, or begins a character literal
+abbrev pub is_mark_or_opening : List ℕ → Bool
+is_mark_or_opening cs = begins_lifetime cs || is_some (past_char modes.Char cs)
+
 -- the mark that a text begins with is joint: ' always is, another before a mark or the ' of a character literal
 abbrev pub is_joint : List ℕ → Bool
 is_joint [] = false
 is_joint (c ∷ cs) = c == 39 || (begins_mark cs || begins_char cs)
+
+-- behind a mark other than ' stands what makes it joint
+abbrev pub is_joined : List ℕ → Bool
+is_joined cs = begins_mark cs || begins_char cs
+
+-- What a character of ASCII begins is one of the commonest pieces: the mark of a group, an identifier of ASCII that no
+-- literal begins like, or a mark other than ' and /.
+abbrev pub is_common : Front → ℕ → List ℕ → Bool
+is_common white c cs = false
+is_common (opens d) c cs = true
+is_common (closes d) c cs = true
+is_common quote c cs = false
+is_common tick c cs = false
+is_common digit c cs = false
+is_common first c cs = not (begins_prefix c) && not (begins is_wide (past (narrow is_next) cs))
+is_common mark c cs = not (c == 47)
+is_common other c cs = false
+
+-- a text begins with such a piece
+abbrev pub begins_common : List ℕ → Bool
+begins_common [] = false
+begins_common (c ∷ cs) = not (is_wide c) && is_common (front_of c) c cs
 
 -- a character that neither ends nor begins a comment, nor is a carriage return
 abbrev pub is_quiet : ℕ → Bool

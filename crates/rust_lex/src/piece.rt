@@ -1,5 +1,7 @@
 //! The classes of pieces.
 
+ghost use Rattle.std.specs.Prelude.{◌≡◌, false};
+
 use crate::group_marks::GroupMarks;
 
 /// The four forms of a doc comment.
@@ -55,4 +57,31 @@ pub enum PieceKind {
     Ident,
     /// A literal, with its suffix.
     Literal(LiteralKind),
+}
+
+/// A piece whose characters are of ASCII, so that each is one byte.
+#[derive(Clone, Copy, Debug)]
+pub struct NarrowPiece {
+    /// Its class.
+    pub kind: PieceKind,
+    /// The place behind it.
+    pub end: usize,
+    /// Whether it is a joint mark.
+    pub is_joint: bool,
+}
+
+impl NarrowPiece {
+    // One that is no joint mark.
+    #[inline(always)]
+    pub(crate) fn of(kind: PieceKind, end: usize) -> NarrowPiece
+        ensures kind { result.kind ≡ kind }
+        ensures end { result.end ≡ end }
+        ensures joint { result.is_joint ≡ false }
+    {
+        NarrowPiece {
+            kind,
+            end,
+            is_joint: false,
+        }
+    }
 }

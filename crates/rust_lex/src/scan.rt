@@ -2,22 +2,21 @@
 
 ghost use Rattle.rust_lex.specs.Chars as chars;
 ghost use Rattle.rust_lex.specs.Number as number;
-ghost use Rattle.rust_lex.specs.Piece as piece;
 ghost use Rattle.rust_lex.specs.Piece.{IsJoint};
 ghost use Rattle.rust_lex.specs.Ended.{IsEnd, IsScanned};
-ghost use Rattle.rust_lex.specs.Places.{IsBehind, IsPieceAt, IsPlace, IsWhiteAt, rest_at};
+ghost use Rattle.rust_lex.specs.Places.{IsBehind, IsNarrowAt, IsPieceAt, IsPlace, IsWhiteAt, rest_at};
 ghost use Rattle.rust_lex.specs.Quoted as quoted;
 ghost use Rattle.rust_lex.specs.QuotedScan as tails;
 ghost use Rattle.rust_lex.specs.Scan as scan;
-ghost use Rattle.std.specs.Prelude.{◌∷◌, ◌≡◌, ◌↔◌, ◌&&◌, ◌==◌, IsTrue, not, true};
+ghost use Rattle.std.specs.Prelude.{◌∷◌, ◌≡◌, ◌<◌, ◌↔◌, ◌&&◌, ◌==◌, IfSome, IsTrue, is_some, not, true};
 
 use crate::comment::slash;
 use crate::cooked::{char_end, string_end};
 use crate::front::{Front, front_of, is_narrow_white};
 use crate::number::number_end;
-use crate::piece::{LiteralKind, PieceKind};
+use crate::piece::{LiteralKind, NarrowPiece, PieceKind};
 use crate::raw::hashes_end;
-use crate::walk::{Next, SlashOrStar, begins, past, suffix_end};
+use crate::walk::{Next, SlashOrStar, Wide, begins, past, past_narrow, suffix_end};
 use crate::word::{begins_lifetime, begins_raw_name, opener_end, raw_mark_end};
 use rust_escape::Mode;
 use text_chars::{char_at, next_char};
@@ -98,6 +97,14 @@ fn prefixed(text: &str, at: usize, next: usize) -> Option<(PieceKind, usize)>
     }
 }
 
+// Whether a prefix of literals begins with a character.
+#[inline(always)]
+fn begins_prefix(c: char) -> bool
+    ensures { result ≡ chars.begins_prefix c }
+{
+    (c == 'b') | ((c == 'c') | (c == 'r'))
+}
+
 // What a letter or an underscore begins, which ends at a place.
 #[inline(always)]
 fn word(text: &str, at: usize, c: char, next: usize) -> Option<(PieceKind, usize)>
@@ -107,7 +114,7 @@ fn word(text: &str, at: usize, c: char, next: usize) -> Option<(PieceKind, usize
     requires first { chars.past chars.is_next (rest_at text.now at) ≡ chars.past chars.is_next (rest_at text.now next) }
     ensures { IsScanned text.now at result (scan.word (rest_at text.now at)) }
 {
-    if (c == 'b') | ((c == 'c') | (c == 'r')) {
+    if begins_prefix(c) {
         return prefixed(text, at, next);
     }
     Some((PieceKind::Ident, past::<Next>(text, next)))
@@ -214,39 +221,34 @@ fn begins_mark_but_tick(text: &str, c: char, next: usize) -> bool
     }
 }
 
-/// Whether a mark stands at a place of a text, which is in bytes from 0. A character has to begin there, or the text
-/// to end.
-#[tactic(auto, using(crate::proofs::Scans::marks))]
-pub fn begins_mark(text: &str, at: usize) -> bool
+// Whether a quote that ends at a place is a mark, or begins a character literal.
+#[inline(never)]
+fn is_mark_or_opening(text: &str, at: usize) -> bool
     requires { IsPlace text.now at }
-    ensures { result ≡ piece.begins_mark (rest_at text.now at) }
+    ensures { result ≡ scan.is_mark_or_opening (rest_at text.now at) }
+{
+    begins_lifetime(text, at) || char_end(text, at, Mode::Char).is_some()
+}
+
+// Whether a mark other than `'` is joint, which ends at a place.
+#[tactic(auto, using(crate::proofs::Scans::joints))]
+#[inline(always)]
+fn is_joined(text: &str, at: usize) -> bool
+    requires { IsPlace text.now at }
+    ensures { result ≡ scan.is_joined (rest_at text.now at) }
 {
     let Some((c, next)) = next_char(text, at) else {
         return false;
     };
     if c == '\'' {
-        return begins_lifetime(text, next);
+        return is_mark_or_opening(text, next);
     }
     begins_mark_but_tick(text, c, next)
 }
 
-// Whether a character literal stands at a place.
-#[tactic(auto, using(crate::proofs::PlacesLemmas::rest_end))]
-fn begins_char(text: &str, at: usize) -> bool
-    requires { IsPlace text.now at }
-    ensures { result ≡ scan.begins_char (rest_at text.now at) }
-{
-    let Some((c, next)) = next_char(text, at) else {
-        return false;
-    };
-    if c != '\'' {
-        return false;
-    }
-    char_end(text, next, Mode::Char).is_some()
-}
-
 // Whether the mark that stands at a place is joint.
 #[tactic(auto, using(crate::proofs::PlacesLemmas::rest_end))]
+#[inline(always)]
 fn joint(text: &str, at: usize) -> bool
     requires { IsPlace text.now at }
     ensures { result ≡ scan.is_joint (rest_at text.now at) }
@@ -254,18 +256,66 @@ fn joint(text: &str, at: usize) -> bool
     let Some((c, next)) = next_char(text, at) else {
         return false;
     };
-    if (c == '\'') | begins_mark(text, next) {
-        return true;
-    }
-    begins_char(text, next)
+    (c == '\'') || is_joined(text, next)
 }
 
 /// Whether the mark that stands at a place is joint: a `'` always is, another where a mark or a
 /// character literal follows it at once. The place is in bytes from 0. A character has to begin there, or the text to
 /// end.
+#[inline(always)]
 pub fn is_joint(text: &str, at: usize) -> bool
     requires { IsPlace text.now at }
     ensures { IsTrue result ↔ IsJoint (rest_at text.now at) }
 {
     joint(text, at)
+}
+
+// An identifier of ASCII that begins with a character, unless a literal may begin so.
+#[inline(always)]
+fn narrow_word(text: &str, at: usize, c: char, next: usize) -> Option<NarrowPiece>
+    requires place { IsPlace text.now at }
+    requires is { rest_at text.now at ≡ c ∷ rest_at text.now next }
+    requires behind { IsBehind text.now at next }
+    requires narrow { c < 128 }
+    requires first { scan.front_of c ≡ scan.first }
+    ensures found { is_some result ≡ scan.is_common scan.first c (rest_at text.now next) }
+    ensures piece { IfSome result (IsNarrowAt text.now at) }
+{
+    if begins_prefix(c) {
+        return None;
+    }
+    let end = past_narrow::<Next>(text, next);
+    if begins::<Wide>(text, end) {
+        return None;
+    }
+    Some(NarrowPiece::of(PieceKind::Ident, end))
+}
+
+/// The piece at a place of a text, which is in bytes from 0, if it is one of the commonest, of ASCII: the mark of a
+/// group, a mark other than `'` and `/`, or an identifier that doesn't begin with `b`, `c` or `r`. A character has to
+/// begin there, or the text to end.
+#[tactic(auto, using(crate::proofs::PlacesLemmas::rest_end))]
+#[inline(always)]
+pub fn narrow_piece(text: &str, at: usize) -> Option<NarrowPiece>
+    requires { IsPlace text.now at }
+    ensures found { is_some result ≡ scan.begins_common (rest_at text.now at) }
+    ensures piece { IfSome result (IsNarrowAt text.now at) }
+{
+    let Some((c, next)) = next_char(text, at) else {
+        return None;
+    };
+    if c >= '\u{80}' {
+        return None;
+    }
+    match front_of(c) {
+        Front::Opens(marks) => Some(NarrowPiece::of(PieceKind::Open(marks), next)),
+        Front::Closes(marks) => Some(NarrowPiece::of(PieceKind::Close(marks), next)),
+        Front::First => narrow_word(text, at, c, next),
+        Front::Mark if c != '/' => Some(NarrowPiece {
+            kind: PieceKind::Mark,
+            end: next,
+            is_joint: is_joined(text, next),
+        }),
+        _ => None,
+    }
 }

@@ -9,7 +9,7 @@ ghost use Rattle.rust_lex.specs.Places.{IsPlace, rest_at};
 ghost use Rattle.std.specs.Prelude.{◌≡◌};
 
 use text_chars::Test;
-pub(crate) use text_chars::{begins, past, past_long, past_many};
+pub(crate) use text_chars::{begins, past, past_long, past_many, past_narrow};
 use unicode_ident::{is_xid_continue, is_xid_start};
 
 #[tactic(auto, unfolding(crate::specs::Chars::is_first))]
@@ -69,6 +69,18 @@ impl Test for Next {
         let upper = (b'A' <= byte) & (byte <= b'Z');
         let lower = (b'a' <= byte) & (byte <= b'z');
         ((digit | upper) | lower) | (byte == b'_')
+    }
+}
+
+// A character that isn't of ASCII.
+pub(crate) struct Wide;
+
+impl Test for Wide {
+    ghost test = { chars.is_wide };
+
+    #[inline(always)]
+    fn passes(c: char) -> bool {
+        c >= '\u{80}'
     }
 }
 

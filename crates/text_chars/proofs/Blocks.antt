@@ -1,14 +1,16 @@
 -- Characters of ASCII that pass, many at once.
 use Rattle.std.proofs.Common.{◌≡◌, ℕ, ◌+◌, ◌-◌, ◌≤◌, ◌<◌, arith, List, [], ◌∷◌, ◌++◌, refl, sym, ap, ◌∙◌, subst}
 use Rattle.std.proofs.Common.{append_assoc, length, drop, take, get_or, inl, inr}
-use Rattle.std.specs.Prelude.{Bool, true, ◌&&◌, nat_lt}
+use Rattle.std.specs.Prelude.{Bool, true, false, ◌&&◌, nat_lt, encode_utf8_all}
 use Rattle.std.specs.List.{list_all}
 use Rattle.std.proofs.lemmas.List.{drop_more, length-drop, length-take-le}
 use Rattle.std.proofs.lemmas.List.Folds.{list_all-append}
 use Rattle.std.proofs.lemmas.Bool.{and_parts, ltb-true, cases_lt, lt-ltb, le-ltb}
+use Rattle.std.proofs.lemmas.Str.{encode_ascii, encodes-chars}
 use Rattle.text_chars.specs.Chars.{narrow, past}
 use Rattle.text_chars.specs.Places.{rest_at, IsPlace, IsFrom, IsPassed}
 use Rattle.text_chars.proofs.Steps.{ascii_step}
+use Rattle.text_chars.proofs.Walks.{Walks}
 
 -- a test that is right of ASCII
 pub narrow_is : (p : ℕ → Bool) (b : ℕ) (r : Bool) → (b < 128 → r ≡ p b) → (nat_lt b 128 && r) ≡ narrow p b
@@ -89,3 +91,38 @@ past_behind p bytes start at h = sym (ap (past p) h.joined ∙ past_run p h.pass
 
 pub passed_from : (p : ℕ → Bool) (bytes : List ℕ) (start at : ℕ) → IsPassed p bytes start at → IsFrom bytes start at
 passed_from p bytes start at h = record { place = h.place; on = h.on }
+
+-- where a byte stands that is no character of ASCII that passes, no such character stands
+stopped : (p : ℕ → Bool) (cs bytes : List ℕ) (b : ℕ) → encode_utf8_all cs ≡ b ∷ bytes → narrow p b ≡ false
+    → past (narrow p) cs ≡ cs
+stopped p [] bytes b e h = refl
+stopped p (c ∷ cs) bytes b e h = elim (cases_lt c 128) [
+  | inl l ↦
+      let first : c ∷ encode_utf8_all cs ≡ b ∷ bytes = ap (λ x. x ++ encode_utf8_all cs) (sym (encode_ascii c l)) ∙ e in
+      let same : c ≡ b = cc in
+      let fails : narrow p c ≡ false = ap (narrow p) same ∙ h in
+      rw fails refl
+  | inr g ↦ rw (le-ltb c 128 g) refl
+]
+
+pub past_stopped : (p : ℕ → Bool) (bytes : List ℕ) (at : ℕ) → IsPlace bytes at → at < length bytes
+    → narrow p (get_or bytes at 0) ≡ false → past (narrow p) (rest_at bytes at) ≡ rest_at bytes at
+past_stopped p bytes at place more h =
+    stopped p (rest_at bytes at) (drop (at + 1) bytes) (get_or bytes at 0)
+    (encodes-chars (drop at bytes) place.cut ∙ drop_more bytes at 0 more) h
+
+-- the next character of ASCII that passes
+pub narrow_on : (p : ℕ → Bool) (bytes text : List ℕ) (start at : ℕ) → bytes ≡ text
+    → Walks (past (narrow p)) text start at → at < length bytes → narrow p (get_or bytes at 0) ≡ true
+    → Walks (past (narrow p)) text start (at + 1)
+narrow_on p bytes text start at same w more h =
+    let long : at < length text = let l = ap length same in omega arith in
+    let pass : narrow p (get_or text at 0) ≡ true = ap (λ b. narrow p (get_or b at 0)) (sym same) ∙ h in
+    let c = get_or text at 0 in
+    let small = ltb-true c 128 (and_parts (nat_lt c 128) (p c) pass).0 in
+    let step = ascii_step text at w.place long small in
+    record {
+      same = sym (ap (past (narrow p)) step.rest ∙ rw pass refl) ∙ w.same;
+      place = step.behind.place;
+      on = omega (arith, w.on);
+    }

@@ -86,6 +86,32 @@ fn past_by<T: Test>(text: &str, start: usize, by_blocks: bool) -> usize
     at
 }
 
+// Whether a byte is a character of ASCII that passes.
+#[tactic(auto, using(crate::proofs::Blocks::narrow_is))]
+#[inline(always)]
+fn passes_narrow<T: Test>(byte: u8) -> bool
+    ensures { result ≡ narrow T.test byte }
+{
+    byte < 128 && T::passes(char::from(byte))
+}
+
+/// The place behind the characters of ASCII that pass, from a place on: that place where none does. Each of them is one
+/// byte.
+#[tactic(auto, using(crate::proofs::Steps::rest_end, crate::proofs::Blocks::past_stopped))]
+#[inline(always)]
+pub fn past_narrow<T: Test>(text: &str, start: usize) -> usize
+    requires { IsPlace text.now start }
+    ensures rest { rest_at text.now result ≡ chars.past (narrow T.test) (rest_at text.now start) }
+    ensures from { IsFrom text.now start result }
+{
+    let bytes = text.as_bytes();
+    let mut at = start;
+    while at < bytes.len() && passes_narrow::<T>(bytes[at]) {
+        at += 1;
+    }
+    at
+}
+
 /// Whether bytes are all characters of ASCII that pass. It looks at each of them, so that many are seen at once.
 #[tactic(auto, using(crate::proofs::Blocks::narrow_is))]
 #[inline(always)]

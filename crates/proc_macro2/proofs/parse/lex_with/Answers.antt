@@ -37,10 +37,10 @@ overflow_add-count c =
 pub loop-at-preserved-in-Some : goal.loop-at-preserved-in-Some
 loop-at-preserved-in-Some c = read_white _ _ _ _ _ _ c.loop-at.invariant c.in-Some.ensures.0 c.in-Some.ensures.1
 
-pub returns-in_default-next_piece-clause-fault : goal.returns-in_default-next_piece-clause-fault
-returns-in_default-next_piece-clause-fault c = let l =
+pub returns-in_default-found_at-clause-fault : goal.returns-in_default-found_at-clause-fault
+returns-in_default-found_at-clause-fault c = let l =
     lengths _ _ _ _ _ c.loop-at.invariant in
-    (stray_at _ _ _ _ _ c.loop-at.invariant c.loop-at-test.true c.in_default-next_piece.ensures, omega arith)
+    (stray_at _ _ _ _ _ c.loop-at.invariant c.loop-at-test.true c.in_default-found_at.ensures.piece, omega arith)
 
 pub range-piece-requires-clause-start_boundary : goal.range-piece-requires-clause-start_boundary
 range-piece-requires-clause-start_boundary c =
@@ -48,43 +48,29 @@ range-piece-requires-clause-start_boundary c =
 
 pub range-piece-requires-clause-end_boundary : goal.range-piece-requires-clause-end_boundary
 range-piece-requires-clause-end_boundary c =
-    (let p = c.in-Some-next_piece.ensures.1.place in IsCharBoundary-from_drop _ _ p.within p.cut)
-
--- the characters of the piece
-piece_is : (bytes text piece : List ℕ) (at end : ℕ) → piece ≡ take (end - at) (drop at bytes)
-    → chars piece ≡ between_places bytes at end
-piece_is bytes text piece at end e = ap chars e
-
--- they are within the text
-within : (base : ℕ) (bytes piece : List ℕ) (at end n m : ℕ) (builder : Open) → ReadTo base bytes at n builder
-    → IsBehind bytes at end → piece ≡ take (end - at) (drop at bytes) → m ≡ length (chars piece)
-    → n + m ≤ length (chars bytes)
-within base bytes piece at end n m builder r b e l =
-    let on = lengths_on base bytes at end n builder r b in
-    let same : length (chars piece) ≡ length (between_places bytes at end) = ap (λ x. length (chars x)) e in
-    omega arith
+    (let p = c.in-Some-found_at.ensures.piece.1.place in IsCharBoundary-from_drop _ _ p.within p.cut)
 
 pub overflow_cast-there : goal.overflow_cast-there
 overflow_cast-there c =
-    let w = within _ _ _ _ _ _ _ _ c.loop-at.invariant c.in-Some-next_piece.ensures.1 c.range-piece.ensures.value
-    c.characters.ensures in
+    let w = lengths_on _ _ _ _ _ _ c.loop-at.invariant c.in-Some-found_at.ensures.piece.1 in
+    let n = c.in-Some-found_at.ensures.count in
     omega arith
 
 pub overflow_add-there : goal.overflow_add-there
 overflow_add-there c =
-    let w = within _ _ _ _ _ _ _ _ c.loop-at.invariant c.in-Some-next_piece.ensures.1 c.range-piece.ensures.value
-    c.characters.ensures in
+    let w = lengths_on _ _ _ _ _ _ c.loop-at.invariant c.in-Some-found_at.ensures.piece.1 in
+    let n = c.in-Some-found_at.ensures.count in
     omega arith
 
 pub put-requires-clause-ready : goal.put-requires-clause-ready
 put-requires-clause-ready c =
-    subst (IsReady c.in-Some-next_piece.kind) (sym (ap chars c.range-piece.ensures.value))
-    (ready_at _ _ _ _ c.in-Some-next_piece.ensures.0)
+    subst (IsReady c.in-Some-found_at.found.kind) (sym (ap chars c.range-piece.ensures.value))
+    (ready_at _ _ _ _ c.in-Some-found_at.ensures.piece.0)
 
 pub put-requires-clause-within : goal.put-requires-clause-within
 put-requires-clause-within c =
-    let w = within _ _ _ _ _ _ _ _ c.loop-at.invariant c.in-Some-next_piece.ensures.1 c.range-piece.ensures.value
-    c.characters.ensures in
+    let w = lengths_on _ _ _ _ _ _ c.loop-at.invariant c.in-Some-found_at.ensures.piece.1 in
+    let n = c.in-Some-found_at.ensures.count in
     omega arith
 
 refused : (k : PieceKind) (ok : Bool) (old new : Open) (s : Stretch) (cs : List ℕ) (joint : Bool) → ok ≡ false
@@ -92,12 +78,13 @@ refused : (k : PieceKind) (ok : Bool) (old new : Open) (s : Stretch) (cs : List 
 refused k ok old new s cs joint e p = subst (λ b. IsPut k b old new s cs joint) e p
 
 pub returns-then-not-branch-clause-fault : goal.returns-then-not-branch-clause-fault
-returns-then-not-branch-clause-fault c = let l =
-    lengths _ _ _ _ _ c.loop-at.invariant in (
-      unmatched_at _ _ _ _ _ _ _ c.loop-at.invariant c.in-Some-next_piece.ensures.0 c.in-Some-next_piece.ensures.1
-          (put_refuses c.in-Some-next_piece.kind c.loop-at.builder c.put.new.builder _ _ _
-          (refused c.in-Some-next_piece.kind _ c.loop-at.builder c.put.new.builder _ _ _ c.if-not-branch.true
-          c.in_ok-put.ensures)),
+returns-then-not-branch-clause-fault c =
+    let l = lengths _ _ _ _ _ c.loop-at.invariant in
+    let k = c.in-Some-found_at.found.kind in (
+      unmatched_at _ _ _ _ _ _ _ c.loop-at.invariant c.in-Some-found_at.ensures.piece.0
+          c.in-Some-found_at.ensures.piece.1
+          (put_refuses k c.loop-at.builder c.put.new.builder _ _ _
+          (refused k _ c.loop-at.builder c.put.new.builder _ _ _ c.if-not-branch.true c.in_ok-put.ensures)),
       omega arith,
     )
 
@@ -105,30 +92,29 @@ returns-then-not-branch-clause-fault c = let l =
 on : (bytes piece : List ℕ) (at end n m : ℕ) (k : PieceKind) (ok joint : Bool) (old new : Open) (s : Stretch)
     → ReadTo s.whole.start bytes at s.from old → FitsAt at k (between_places bytes at end) (rest_at bytes end)
     → IsBehind bytes at end →
-    piece ≡ take (end - at) (drop at bytes) → s.to ≡ s.from + m → m ≡ length (chars piece) → ok ≡ true
+    piece ≡ take (end - at) (drop at bytes) → s.to ≡ s.from + m → m ≡ length (between_places bytes at end) → ok ≡ true
     → (k ≡ Mark → joint ≡ is_joint (rest_at bytes at)) → IsPut k ok old new s (chars piece) joint
     → ReadTo s.whole.start bytes end (s.from + m) new
 on bytes piece at end n m k ok joint old new s r f b e t l o j p =
     let same : chars piece ≡ between_places bytes at end = ap chars e in
     let put : IsPut k true old new s (between_places bytes at end) joint =
     subst (λ x. IsPut k true old new s x joint) same (subst (λ x. IsPut k x old new s (chars piece) joint) o p) in
-    let len : m ≡ length (between_places bytes at end) = l ∙ ap length same in
     let grown = put_grows at k old new s (between_places bytes at end) (rest_at bytes end) joint put f
-    (λ i. j i ∙ ap is_joint (between_joined bytes at end r.covers.place b)) (t ∙ ap (λ x. s.from + x) len) r.frames
+    (λ i. j i ∙ ap is_joint (between_joined bytes at end r.covers.place b)) (t ∙ ap (λ x. s.from + x) l) r.frames
     r.whole in
-    subst (λ x. ReadTo s.whole.start bytes end (s.from + x) new) (sym len)
+    subst (λ x. ReadTo s.whole.start bytes end (s.from + x) new) (sym l)
     (read_on s.whole.start bytes at end s.from k old new r f b grown)
 
 pub loop-at-preserved : goal.loop-at-preserved
 loop-at-preserved c =
+    let found = c.in-Some-found_at.found in
+    let says = c.in-Some-found_at.ensures in
     let there : Stretch = record
-    { whole = c.args.whole; from = c.loop-at.count; to = c.loop-at.count + c.characters.result } in
-    on c.args.text.now c.range-piece.result.now c.loop-at.at c.in-Some-next_piece.end c.loop-at.count
-    c.characters.result c.in-Some-next_piece.kind _ c.joint_at-joint.result c.loop-at.builder c.put.new.builder
-    there c.loop-at.invariant
-    c.in-Some-next_piece.ensures.0 c.in-Some-next_piece.ensures.1 c.range-piece.ensures.value refl c.characters.ensures
-    c.if-not-branch.false (λ i. joint_test _ c.joint_at-joint.result (c.joint_at-joint.ensures i))
-    c.in_ok-put.ensures
+    { whole = c.args.whole; from = c.loop-at.count; to = c.loop-at.count + found.characters } in
+    on c.args.text.now c.range-piece.result.now c.loop-at.at found.end c.loop-at.count found.characters found.kind _
+    found.joint c.loop-at.builder c.put.new.builder there c.loop-at.invariant says.piece.0 says.piece.1
+    c.range-piece.ensures.value refl says.count c.if-not-branch.false
+    (λ i. joint_test _ found.joint (says.joint i)) c.in_ok-put.ensures
 
 pub returns-in-Ok-clause-parsed : goal.returns-in-Ok-clause-parsed
 returns-in-Ok-clause-parsed c =
