@@ -4,14 +4,13 @@ ghost use Rattle.writer_print.specs.Pieces.{piece_token};
 ghost use Rattle.writer_print.specs.Sheets.{Shows, space_at};
 ghost use Rattle.proc_macro2.specs.Printed as printed;
 ghost use Rattle.proc_macro2.specs.Token.{Token};
-ghost use Rattle.rust_leaf.specs.Leaf.{ident_text, literal_text, text_of};
+ghost use Rattle.rust_leaf.specs.Leaf.{text_of};
 ghost use Rattle.std.specs.Fmt.{decimal};
 ghost use Rattle.std.specs.Prelude.{◌≡◌, ◌++◌, ◌∷◌, ◌&&◌, ◌||◌, not, [], List, OnOk, map};
 ghost use Rattle.std.specs.Str.{chars};
 
 use crate::piece::Piece;
 use proc_macro2::delimiter::Delimiter;
-use rust_leaf::ident::Ident;
 use rust_leaf::punct::Spacing;
 use std::alloc::{AllocError, Global};
 
@@ -134,7 +133,7 @@ fn push_piece(out: &mut String, piece: &Piece) -> Result<(), AllocError>
     ensures { OnOk result (text_of out.new ≡ text_of out.old ++ printed.shown (piece_token piece.now)) }
 {
     match piece {
-        Piece::Ident(ident) => push_ident(out, ident),
+        Piece::Ident(ident) => ident.push_to(out),
         Piece::Literal(literal) => push_word(out, literal.as_str()),
         Piece::Mark(mark, _, _) => push_mark(out, *mark),
         Piece::Open(delimiter, _) => push_opening(out, *delimiter),
@@ -156,13 +155,6 @@ fn push_mark(out: &mut String, mark: char) -> Result<(), AllocError>
     ensures { OnOk result (text_of out.new ≡ text_of out.old ++ mark ∷ []) }
 {
     out.push(mark)
-}
-
-#[tactic(auto, using(crate::proofs::Words::ident_pushed))]
-fn push_ident(out: &mut String, ident: &Ident) -> Result<(), AllocError>
-    ensures { OnOk result (text_of out.new ≡ text_of out.old ++ ident_text ident.now) }
-{
-    write!(out, "{ident}")
 }
 
 #[tactic(auto, using(rust_leaf::proofs::Numbers::decimal_pushed))]
