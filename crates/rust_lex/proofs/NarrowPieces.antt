@@ -1,22 +1,29 @@
 -- Pieces of ASCII, each character of which is one byte.
 use Rattle.std.proofs.Common.{◌≡◌, ℕ, zero, suc, ◌<◌, arith, List, [], ◌∷◌, ◌++◌, length, refl, sym, ap}
-use Rattle.std.proofs.Common.{◌∙◌, length-append, inl, inr, subst}
-use Rattle.std.specs.Prelude.{Bool, true, false, not, ◌==◌, nat_lt, encode_utf8, encode_utf8_all, IsTrue, ◌↔◌}
-use Rattle.std.proofs.lemmas.Bool.{and_from, and_parts, cases_Bool, cases_lt, lt-ltb, le-ltb, ltb-true, ne_eqb}
+use Rattle.std.proofs.Common.{◌∙◌, length-append, inl, inr, subst, ⊎_elim}
+use Rattle.std.specs.Prelude.{Bool, true, false, not, None, ◌||◌, ◌==◌, nat_lt, encode_utf8, encode_utf8_all, IsTrue}
+use Rattle.std.specs.Prelude.{◌↔◌}
+use Rattle.std.proofs.Math.Bool.{and-false}
+use Rattle.std.proofs.lemmas.Bool.{and_cases, and_from, and_parts, cases_Bool, cases_lt, lt-ltb, le-ltb, ltb-true}
+use Rattle.std.proofs.lemmas.Bool.{ne_eqb, or_parts}
 use Rattle.std.proofs.lemmas.Str.{length-encode, len_utf8_ascii}
 use Rattle.text_chars.specs.Places.{byte_length}
 use Rattle.rust_escape.proofs.Ranges.{end_is}
-use Rattle.rust_lex.specs.Chars.{begins, begins_prefix, is_first, is_next, is_wide, narrow, passes, past}
+use Rattle.rust_lex.specs.Chars.{begins, begins_prefix, is_behind_prefix, is_first, is_next, is_wide, narrow, passes}
+use Rattle.rust_lex.specs.Chars.{past}
 use Rattle.rust_lex.specs.Ended.{IsFrom}
 use Rattle.rust_lex.specs.Piece.{GroupMarks, Close, Ident, IsJoint, Mark, Open, PieceKind}
 use Rattle.rust_lex.specs.Places.{rest_at, IsBehind, IsNarrowAt, IsPlace}
-use Rattle.rust_lex.specs.Scan.{Ends, Front, closes, first, front_of, is_joined, mark, opens, scan, scan_at, word}
+use Rattle.rust_lex.specs.Quoted.{opener_of}
+use Rattle.rust_lex.specs.Scan.{Ends, Front, closes, first, front_of, is_joined, mark, may_open, opens, scan, scan_at}
+use Rattle.rust_lex.specs.Scan.{word}
+use Rattle.rust_lex.specs.Word.{begins_raw_mark}
 use Rattle.rust_lex.specs.declared.piece.NarrowPiece.{NarrowPiece}
 use Rattle.rust_lex.proofs.Ends.{passed, past_word}
 use Rattle.rust_lex.proofs.Fronts.{Says, first-next, front-tick, front_says}
 use Rattle.rust_lex.proofs.Joints.{joint_says}
 use Rattle.rust_lex.proofs.Pieces.{chars_between, some_piece}
-use Rattle.rust_lex.proofs.Scans.{plain_word}
+use Rattle.rust_lex.proofs.Scans.{plain_word, word_plain}
 
 -- characters of ASCII take one byte each
 narrow_length : (p : ℕ → Bool) (cs : List ℕ) → passes (narrow p) cs ≡ true → byte_length cs ≡ length cs
@@ -100,11 +107,35 @@ past_narrow_is p (c ∷ cs) h = elim (cases_lt c 128) [
       absurd cc
 ]
 
+-- no literal and no raw identifier begins so
+no_opener : (c : ℕ) (cs : List ℕ) → begins is_behind_prefix cs ≡ false → opener_of (c ∷ cs) ≡ None
+unfolding opener_of
+no_opener c [] h = refl
+no_opener c (d ∷ cs) h =
+    let (a, b) = or_parts (d == 34 || d == 35) (d == 39 || d == 114) h in
+    let (quote, hash) = or_parts (d == 34) (d == 35) a in
+    let (tick, raw) = or_parts (d == 39) (d == 114) b in
+    rw (a, quote, tick, raw) (rw (and-false (c == 114), and-false (c == 98), and-false (c == 99)) refl)
+
+no_raw_mark : (c : ℕ) (cs : List ℕ) → begins is_behind_prefix cs ≡ false → begins_raw_mark (c ∷ cs) ≡ false
+no_raw_mark c [] h = and-false (c == 114)
+no_raw_mark c (d ∷ cs) h =
+    let (a, b) = or_parts (d == 34 || d == 35) (d == 39 || d == 114) h in
+    let (quote, hash) = or_parts (d == 34) (d == 35) a in
+    rw hash (and-false (c == 114))
+
+plain_start : (c : ℕ) (cs : List ℕ) → may_open c cs ≡ false → word (c ∷ cs) ≡ Ends Ident (past is_next (c ∷ cs))
+plain_start c cs h =
+    ⊎_elim
+    (λ p. plain_word (c ∷ cs) cs c refl p)
+    (λ b. word_plain (c ∷ cs) (no_raw_mark c cs b) (no_opener c cs b))
+    (and_cases (begins_prefix c) (begins is_behind_prefix cs) h)
+
 first_is : (c : ℕ) → front_of c ≡ first → is_first c ≡ true
 first_is c e = let P : Front → Type 0 = λ f. Says f c in subst P e (front_says c)
 
 pub word_found : (bytes : List ℕ) (at next end c : ℕ) → IsPlace bytes at → rest_at bytes at ≡ c ∷ rest_at bytes next
-    → IsBehind bytes at next → c < 128 → front_of c ≡ first → begins_prefix c ≡ false
+    → IsBehind bytes at next → c < 128 → front_of c ≡ first → may_open c (rest_at bytes next) ≡ false
     → rest_at bytes end ≡ past (narrow is_next) (rest_at bytes next) → IsFrom bytes next end
     → begins is_wide (rest_at bytes end) ≡ false
     → IsNarrowAt bytes at (record { kind = Ident; end = end; is_joint = false })
@@ -112,7 +143,7 @@ word_found bytes at next end c place is behind small e other rest from_next w =
     let cs = rest_at bytes next in
     let letter = first_is c e in
     let over : begins is_wide (past (narrow is_next) cs) ≡ false = ap (begins is_wide) (sym rest) ∙ w in
-    let word_is : word (c ∷ cs) ≡ Ends Ident (rest_at bytes end) = plain_word (c ∷ cs) cs c refl other
+    let word_is : word (c ∷ cs) ≡ Ends Ident (rest_at bytes end) = plain_start c cs other
     ∙ ap (Ends Ident) (past_word c cs letter ∙ past_narrow_is is_next cs over ∙ sym rest) in
     let more = passed (narrow is_next) cs in
     let joined : rest_at bytes at ≡ (c ∷ more.front) ++ rest_at bytes end =

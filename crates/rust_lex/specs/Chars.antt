@@ -28,6 +28,10 @@ is_next c = is_xid_continue c
 abbrev pub begins_prefix : ℕ → Bool
 begins_prefix c = c == 98 || (c == 99 || c == 114)
 
+-- " # ' r, one of which stands behind the first letter of a prefix, and of the mark of a raw identifier
+abbrev pub is_behind_prefix : ℕ → Bool
+is_behind_prefix c = (c == 34 || c == 35) || (c == 39 || c == 114)
+
 -- a character that isn't of ASCII
 abbrev pub is_wide : ℕ → Bool
 is_wide c = not (nat_lt c 128)

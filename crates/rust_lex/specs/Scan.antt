@@ -2,7 +2,7 @@
 use Rattle.std.specs.Prelude.{ℕ, zero, suc, Bool, true, false, ◌&&◌, ◌||◌, ◌==◌, not, is_some, List, [], ◌∷◌}
 use Rattle.std.specs.Prelude.{Option, Some, None, if◌then◌else◌, drop, length}
 use Rattle.rust_lex.specs.Chars.{is_white, is_first, is_next, is_digit, is_mark_but_tick, is_not_feed, past}
-use Rattle.rust_lex.specs.Chars.{begins, begins_prefix, is_wide, narrow}
+use Rattle.rust_lex.specs.Chars.{begins, begins_prefix, is_behind_prefix, is_wide, narrow}
 use Rattle.rust_lex.specs.Ends.{past_suffix}
 use Rattle.rust_lex.specs.Comment.{OuterLine, InnerLine, OuterBlock, InnerBlock, is_plain_line, is_plain_block}
 use Rattle.rust_lex.specs.Comment.{past_comment, is_within_line, ends_line}
@@ -124,8 +124,12 @@ is_joint (c ∷ cs) = c == 39 || (begins_mark cs || begins_char cs)
 abbrev pub is_joined : List ℕ → Bool
 is_joined cs = begins_mark cs || begins_char cs
 
--- What a character of ASCII begins is one of the commonest pieces: the mark of a group, an identifier of ASCII that no
--- literal begins like, or a mark other than ' and /.
+-- a literal with a prefix or a raw identifier may begin with a character before a text
+abbrev pub may_open : ℕ → List ℕ → Bool
+may_open c cs = begins_prefix c && begins is_behind_prefix cs
+
+-- What a character of ASCII begins is one of the commonest pieces: the mark of a group, an identifier of ASCII as which
+-- no other piece may begin, or a mark other than ' and /.
 abbrev pub is_common : Front → ℕ → List ℕ → Bool
 is_common white c cs = false
 is_common (opens d) c cs = true
@@ -133,7 +137,7 @@ is_common (closes d) c cs = true
 is_common quote c cs = false
 is_common tick c cs = false
 is_common digit c cs = false
-is_common first c cs = not (begins_prefix c) && not (begins is_wide (past (narrow is_next) cs))
+is_common first c cs = not (may_open c cs) && not (begins is_wide (past (narrow is_next) cs))
 is_common mark c cs = not (c == 47)
 is_common other c cs = false
 

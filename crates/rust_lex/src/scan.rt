@@ -16,7 +16,7 @@ use crate::front::{Front, front_of, is_narrow_white};
 use crate::number::number_end;
 use crate::piece::{LiteralKind, NarrowPiece, PieceKind};
 use crate::raw::hashes_end;
-use crate::walk::{Next, SlashOrStar, Wide, begins, past, past_narrow, suffix_end};
+use crate::walk::{BehindPrefix, Next, SlashOrStar, Wide, begins, past, past_narrow, suffix_end};
 use crate::word::{begins_lifetime, begins_raw_name, opener_end, raw_mark_end};
 use rust_escape::Mode;
 use text_chars::{char_at, next_char};
@@ -270,7 +270,16 @@ pub fn is_joint(text: &str, at: usize) -> bool
     joint(text, at)
 }
 
-// An identifier of ASCII that begins with a character, unless a literal may begin so.
+// Whether a literal with a prefix or a raw identifier may begin with a character, which ends at a place.
+#[inline(always)]
+fn may_open(text: &str, c: char, next: usize) -> bool
+    requires { IsPlace text.now next }
+    ensures { result ≡ scan.may_open c (rest_at text.now next) }
+{
+    begins_prefix(c) && begins::<BehindPrefix>(text, next)
+}
+
+// An identifier of ASCII that begins with a character, unless a literal or a raw identifier may begin so.
 #[inline(always)]
 fn narrow_word(text: &str, at: usize, c: char, next: usize) -> Option<NarrowPiece>
     requires place { IsPlace text.now at }
@@ -281,7 +290,7 @@ fn narrow_word(text: &str, at: usize, c: char, next: usize) -> Option<NarrowPiec
     ensures found { is_some result ≡ scan.is_common scan.first c (rest_at text.now next) }
     ensures piece { IfSome result (IsNarrowAt text.now at) }
 {
-    if begins_prefix(c) {
+    if may_open(text, c, next) {
         return None;
     }
     let end = past_narrow::<Next>(text, next);
@@ -292,8 +301,8 @@ fn narrow_word(text: &str, at: usize, c: char, next: usize) -> Option<NarrowPiec
 }
 
 /// The piece at a place of a text, which is in bytes from 0, if it is one of the commonest, of ASCII: the mark of a
-/// group, a mark other than `'` and `/`, or an identifier that doesn't begin with `b`, `c` or `r`. A character has to
-/// begin there, or the text to end.
+/// group, a mark other than `'` and `/`, or an identifier that doesn't begin as a literal or a raw identifier may. A
+/// character has to begin there, or the text to end.
 #[tactic(auto, using(crate::proofs::PlacesLemmas::rest_end))]
 #[inline(always)]
 pub fn narrow_piece(text: &str, at: usize) -> Option<NarrowPiece>

@@ -140,6 +140,18 @@ impl Test for QuoteOrHash {
     }
 }
 
+// What may stand behind the first letter of a prefix of literals, or of the mark of a raw identifier.
+pub(crate) struct BehindPrefix;
+
+impl Test for BehindPrefix {
+    ghost test = { chars.is_behind_prefix };
+
+    #[inline(always)]
+    fn passes(c: char) -> bool {
+        ((c == '"') | (c == '#')) | ((c == '\'') | (c == 'r'))
+    }
+}
+
 pub(crate) struct Tick;
 
 impl Test for Tick {
