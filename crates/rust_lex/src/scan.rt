@@ -248,7 +248,6 @@ fn is_joined(text: &str, at: usize) -> bool
 
 // Whether the mark that stands at a place is joint.
 #[tactic(auto, using(crate::proofs::PlacesLemmas::rest_end))]
-#[inline(always)]
 fn joint(text: &str, at: usize) -> bool
     requires { IsPlace text.now at }
     ensures { result ≡ scan.is_joint (rest_at text.now at) }
@@ -262,7 +261,6 @@ fn joint(text: &str, at: usize) -> bool
 /// Whether the mark that stands at a place is joint: a `'` always is, another where a mark or a
 /// character literal follows it at once. The place is in bytes from 0. A character has to begin there, or the text to
 /// end.
-#[inline(always)]
 pub fn is_joint(text: &str, at: usize) -> bool
     requires { IsPlace text.now at }
     ensures { IsTrue result ↔ IsJoint (rest_at text.now at) }
