@@ -75,7 +75,7 @@ apart_item x = x
 abbrev pub is_enclosed : Tree → Tree → Bool
 is_enclosed before after = sees parenthesis (flat after) && not (sees parenthesis (flat before))
 
--- a raw item's last mark stands alone exactly where a parenthesis was added behind it
+-- a statement that is a raw item is set apart so if a parenthesis was added behind it, and else stays as it is
 abbrev pub apart_if : Bool → Tree → Tree
 apart_if b x = cond b (apart_item x) x
 
