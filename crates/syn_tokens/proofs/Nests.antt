@@ -11,7 +11,7 @@ use Rattle.writer_print.specs.declared.piece.Piece.{Piece}
 use Rattle.writer_print.specs.declared.piece.Piece.TheVariants as pieces
 use Rattle.std.specs.Prelude.{Bool, true, false, ◌&&◌, not, reverse, if◌then◌else◌}
 use Rattle.rust_map.specs.declared.span.Span.{Span}
-use Rattle.std.proofs.lemmas.List.{append-nil, length-map, length-reverse, map-append, reverse-append, at_drop_more}
+use Rattle.std.proofs.lemmas.List.{append-nil, map-append, reverse-append, at_drop_more}
 use Rattle.rust_leaf.specs.Minus.{minus, starts_with_minus}
 use Rattle.proc_macro2.specs.Groups.{same_delimiter}
 use Rattle.proc_macro2.specs.Token.{Token, Opens, Closes, Ident, Literal, Punct, Alone, Spanned, plain}
@@ -255,24 +255,3 @@ stand_none pieces i p ds b is below none h =
     sym h ∙ at_drop_more (λ ps. stand ds (map piece_token ps)) pieces i p below
     ∙ ap (λ x. stand ds (piece_token x ∷ map piece_token (drop (i + 1) pieces))) (sym is)
     ∙ none (map piece_token (drop (i + 1) pieces))
-
--- where nothing is left, and it may end there, no group is open
-none_left : (ds : List Delimiter) → stand ds [] ≡ true → ds ≡ []
-none_left [] h = refl
-none_left (d ∷ ds) h = cc
-
-none_outer : (os : List Outer) → length os ≡ 0 → os ≡ []
-none_outer [] e = refl
-none_outer (o ∷ os) e = cc
-
-pub none_open : (os : List Outer) → stand (reverse (map (λ x. x.delimiter) os)) [] ≡ true → os ≡ []
-none_open os h =
-    let ds : List Delimiter = map (λ x. x.delimiter) os in
-    none_outer os (sym (length-map os (λ (x : Outer). x.delimiter)) ∙ sym (length-reverse ds)
-    ∙ ap length (none_left (reverse ds) h))
-
--- what was put is then all that stands in the innermost list
-pub all_inside : (os : List Outer) (inside all : List Spanned) → os ≡ []
-    → (outer_tokens os ++ inside) ++ [] ≡ all → inside ≡ all
-all_inside os inside all e f =
-    sym (append-nil inside) ∙ ap (λ xs. (outer_tokens xs ++ inside) ++ []) (sym e) ∙ f

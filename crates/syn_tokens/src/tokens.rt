@@ -161,23 +161,6 @@ impl Nest {
         }
     }
 
-    // Puts what can be made of a token that may not stand there: of a literal with a minus two tokens, of others none.
-    fn loosely(&mut self, piece: &Piece<'_>) -> Result<(), AllocError> {
-        match piece {
-            Piece::Literal(literal) => self.put(TokenTree::Literal(literal.try_clone()?)),
-            _ => Ok(()),
-        }
-    }
-
-    // Closes the innermost group, which was open at the end.
-    fn end(&mut self, outer: Outer) -> Result<(), AllocError>
-        ensures { self.new.outer ≡ self.old.outer }
-    {
-        let inside = mem::replace(&mut self.inside, outer.before);
-        let group = group_at(outer.delimiter, outer.span, inside);
-        self.inside.push_tree(TokenTree::Group(group))
-    }
-
     // Puts a token, if it may stand there.
     #[tactic(auto, using(crate::proofs::Nests::steps))]
     fn step(&mut self, piece: &Piece<'_>) -> Result<bool, AllocError>
@@ -233,33 +216,6 @@ pub fn stream_of(alloc: Global, pieces: &[Piece<'_>]) -> Result<Option<TokenStre
     } else {
         Ok(None)
     }
-}
-
-/// The stream of tokens that are to be written, as `stream_of` gives it. Where they are those of no stream, it is what
-/// can be made of them: a literal that begins with a minus is that mark and the literal behind it, what closes no group
-/// that is open there is left out, and what is open at the end is closed.
-///
-/// # Errors
-///
-/// Where there is no memory for it.
-pub fn stream_with(alloc: Global, pieces: &[Piece<'_>]) -> Result<TokenStream, AllocError>
-    ensures tokens { are_trees (map piece_token pieces.now) ≡ true
-        → IfOk result (λ s. plain s ≡ map piece_token pieces.now) }
-    ensures places { are_trees (map piece_token pieces.now) ≡ true → IfOk result (λ s. s ≡ placed [] pieces.now) }
-{
-    let mut nest = Nest {
-        outer: Vec::new(alloc),
-        inside: TokenStream::new(alloc),
-    };
-    for piece in pieces {
-        if !nest.step(piece)? {
-            nest.loosely(piece)?;
-        }
-    }
-    while let Some(outer) = nest.outer.pop() {
-        nest.end(outer)?;
-    }
-    Ok(nest.inside)
 }
 
 /// The stream of what is written of a tree: of the tokens of the normal form of what a syntax tree holds of it, in any
