@@ -1,8 +1,8 @@
 #!/usr/bin/env python3
 """Counts the instructions that programs take for a byte of a text, by valgrind's callgrind. Prints two tables with a
 row for each program and each peer of `peers.py`: of texts that are made as `canon.py` makes them and one file of the
-standard library, and of the shapes that `shapes.py` calls weak, of a hundred kilobytes each. What a run on the shortest
-text takes is subtracted, and stands in the last column. A count is the same whatever else runs on the machine.
+standard library, and of the shapes that `shapes.py` calls weak, of some hundred kilobytes each. What a run on the
+shortest text takes is subtracted, and stands in the last column. A count is the same whatever else runs on the machine.
 
 Usage: bench/instructions.py [lex] [alone] PROGRAM...   A program reads standard input. With `lex` each lexes only, and
 so do the peers; with `alone` there are no peers. It fetches Debian's packages rust-src, librust-proc-macro2-dev,
@@ -27,8 +27,8 @@ def counted(command, text, place):
     with open(place, "wb") as file:
         file.write(text)
     valgrind = ["valgrind", "--trace-children=yes", "--tool=callgrind", "--callgrind-out-file=/dev/null"]
-    with open(place, "rb") as text:
-        ran = subprocess.run([*valgrind, *command], stdin=text, stdout=subprocess.DEVNULL, stderr=subprocess.PIPE)
+    with open(place, "rb") as file:
+        ran = subprocess.run([*valgrind, *command], stdin=file, stdout=subprocess.DEVNULL, stderr=subprocess.PIPE)
     return int(re.findall(rb"Collected : (\d+)", ran.stderr)[-1]) if ran.returncode == 0 else None
 
 
