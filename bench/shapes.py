@@ -71,6 +71,9 @@ def weak(size):
     yield "`fn f(){}` repeated", repeated(b"fn f(){}\n")
     yield "one large function", b"fn f() {\n" + repeated(b"    let x = f(a.b, 1);\n") + b"}\n"
     yield "one large array", b"const A: &[u8] = &[" + repeated(b"1, ") + b"];\n"
+    yield "one large struct", b"struct A {\n" + repeated(b"    a: u8,\n") + b"}\n"
+    yield "one large match", b"fn f() { match a {\n" + repeated(b"    a => b,\n") + b"} }\n"
+    yield "one function of short statements", b"fn f(){" + repeated(b"a;") + b"}\n"
 
 
 def shapes(std):
