@@ -23,7 +23,7 @@ from peers import TOP, all_peers
 from shapes import Runner, fetch, library, measured, weak
 
 SIZE = 1_000_000
-WEAK = 5_000_000
+WEAK = 2_000_000
 INFIX = ["+", "-", "*", "/", "%", "&", "|", "^", "<<", ">>", "&&", "||"]
 
 
