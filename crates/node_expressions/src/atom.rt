@@ -27,7 +27,7 @@ pub struct ExprGroup<E> {
     /// Where the group stands.
     pub group_token: token::Group,
     /// The expression inside.
-    pub expr: Box<E>,
+    pub expr: E,
 }
 
 /// A value that is found out, or thrown away: `_`.
@@ -65,7 +65,7 @@ pub struct ExprParen<E> {
     /// `( )`
     pub paren_token: token::Paren,
     /// The expression inside.
-    pub expr: Box<E>,
+    pub expr: E,
 }
 
 /// A path: `std::mem::swap` or `<T as Limit>::MAX`.
@@ -87,11 +87,11 @@ pub struct ExprRepeat<E> {
     /// `[ ]`
     pub bracket_token: token::Bracket,
     /// The element.
-    pub expr: Box<E>,
+    pub expr: E,
     /// `;`
     pub semi_token: token::Semi,
     /// How many there are.
-    pub len: Box<E>,
+    pub len: E,
 }
 
 /// A struct: `Point { x: 1, ..other }`.
@@ -110,7 +110,7 @@ pub struct ExprStruct<E> {
     /// `..` behind the fields, if it is there.
     pub dot2_token: Option<token::DotDot>,
     /// What the other fields are taken from, if it is there.
-    pub rest: Option<Box<E>>,
+    pub rest: Option<E>,
 }
 
 /// A field of a struct with its value: `x: 1`, or `x` alone.

@@ -1,7 +1,10 @@
 //! Blocks, and what runs them.
 
+ghost use Rattle.std.specs.Prelude.{◌≡◌, Ok};
+
 use crate::statement::Stmt;
 use node_paths::attribute::Attribute;
+use syn_error::Result;
 use syn_kinds::lifetime::Lifetime;
 use syn_kinds::token;
 
@@ -15,11 +18,24 @@ pub struct Block<E> {
 }
 
 /// What stands beside the parts of a block: nothing.
-#[derive(Clone, Copy, Default)]
+#[derive(Clone, Copy, PartialEq, Eq, Default)]
 pub struct BlockModifiers {}
 
+impl BlockModifiers {
+    /// Asks that none is set, as is so of every block. It takes no memory.
+    ///
+    /// # Errors
+    ///
+    /// None, as nothing is there that could be set.
+    pub fn require_empty(&self) -> Result<()>
+        ensures { result ≡ Ok tt }
+    {
+        Ok(())
+    }
+}
+
 /// The label of a block or a loop: `'outer:`.
-#[derive(Drop)]
+#[derive(Drop, PartialEq, Eq)]
 pub struct Label {
     /// Its name.
     pub name: Lifetime,
@@ -74,11 +90,11 @@ pub struct ExprForLoop<E> {
     /// `for`
     pub for_token: token::For,
     /// The pattern of an element.
-    pub pat: Box<E>,
+    pub pat: E,
     /// `in`
     pub in_token: token::In,
     /// The iterator.
-    pub expr: Box<E>,
+    pub expr: E,
     /// What runs for each element.
     pub body: Block<E>,
 }
@@ -128,7 +144,7 @@ pub struct ExprWhile<E> {
     /// `while`
     pub while_token: token::While,
     /// The condition.
-    pub cond: Box<E>,
+    pub cond: E,
     /// What runs each time.
     pub body: Block<E>,
 }

@@ -12,11 +12,11 @@ pub struct ExprIf<E> {
     /// `if`
     pub if_token: token::If,
     /// The condition.
-    pub cond: Box<E>,
+    pub cond: E,
     /// What runs if it holds.
     pub then_branch: Block<E>,
     /// `else` and a block or another `if`, if they are there.
-    pub else_branch: Option<(token::Else, Box<E>)>,
+    pub else_branch: Option<(token::Else, E)>,
 }
 
 /// Whether a pattern matches, in a condition: `let Some(x) = y`.
@@ -27,11 +27,11 @@ pub struct ExprLet<E> {
     /// `let`
     pub let_token: token::Let,
     /// The pattern.
-    pub pat: Box<E>,
+    pub pat: E,
     /// `=`
     pub eq_token: token::Eq,
     /// What is matched.
-    pub expr: Box<E>,
+    pub expr: E,
 }
 
 /// A choice by patterns: `match x { Some(y) => y, None => 0 }`.
@@ -42,7 +42,7 @@ pub struct ExprMatch<E> {
     /// `match`
     pub match_token: token::Match,
     /// What is matched.
-    pub expr: Box<E>,
+    pub expr: E,
     /// `{ }`
     pub brace_token: token::Brace,
     /// The arms.
@@ -57,11 +57,11 @@ pub struct Arm<E> {
     /// The pattern.
     pub pat: E,
     /// `if` and a condition, if they are there.
-    pub guard: Option<(token::If, Box<E>)>,
+    pub guard: Option<(token::If, E)>,
     /// `=>`
     pub fat_arrow_token: token::FatArrow,
     /// What the `match` becomes.
-    pub body: Box<E>,
+    pub body: E,
     /// `,` behind it, if it is there.
     pub comma: Option<token::Comma>,
 }

@@ -13,7 +13,7 @@ pub struct ExprAwait<E> {
     /// The attributes in front of it.
     pub attrs: Vec<Attribute<E>>,
     /// The future.
-    pub base: Box<E>,
+    pub base: E,
     /// `.`
     pub dot_token: token::Dot,
     /// `await`
@@ -26,7 +26,7 @@ pub struct ExprCall<E> {
     /// The attributes in front of it.
     pub attrs: Vec<Attribute<E>>,
     /// What is called.
-    pub func: Box<E>,
+    pub func: E,
     /// `( )`
     pub paren_token: token::Paren,
     /// The arguments, with commas.
@@ -39,7 +39,7 @@ pub struct ExprField<E> {
     /// The attributes in front of it.
     pub attrs: Vec<Attribute<E>>,
     /// What has the field.
-    pub base: Box<E>,
+    pub base: E,
     /// `.`
     pub dot_token: token::Dot,
     /// The field.
@@ -52,11 +52,11 @@ pub struct ExprIndex<E> {
     /// The attributes in front of it.
     pub attrs: Vec<Attribute<E>>,
     /// What has the element.
-    pub expr: Box<E>,
+    pub expr: E,
     /// `[ ]`
     pub bracket_token: token::Bracket,
     /// Which one it is.
-    pub index: Box<E>,
+    pub index: E,
 }
 
 /// A call of a method: `x.get::<T>(a, b)`.
@@ -65,7 +65,7 @@ pub struct ExprMethodCall<E> {
     /// The attributes in front of it.
     pub attrs: Vec<Attribute<E>>,
     /// What the method is called on.
-    pub receiver: Box<E>,
+    pub receiver: E,
     /// `.`
     pub dot_token: token::Dot,
     /// The method's name.
@@ -84,7 +84,7 @@ pub struct ExprTry<E> {
     /// The attributes in front of it.
     pub attrs: Vec<Attribute<E>>,
     /// What has the value or the error.
-    pub expr: Box<E>,
+    pub expr: E,
     /// `?`
     pub question_token: token::Question,
 }

@@ -1,8 +1,11 @@
 //! Closures.
 
+ghost use Rattle.std.specs.Prelude.{◌≡◌, Ok};
+
 use node_paths::attribute::Attribute;
 use node_paths::bound::BoundLifetimes;
 use node_paths::path::ReturnType;
+use syn_error::Result;
 use syn_kinds::token;
 use syn_lists::Punctuated;
 
@@ -32,9 +35,22 @@ pub struct ExprClosure<E> {
     /// The type of the result.
     pub output: ReturnType<E>,
     /// What it answers.
-    pub body: Box<E>,
+    pub body: E,
 }
 
 /// What stands beside the parts of a closure: nothing.
-#[derive(Clone, Copy, Default)]
+#[derive(Clone, Copy, PartialEq, Eq, Default)]
 pub struct ClosureModifiers {}
+
+impl ClosureModifiers {
+    /// Asks that none is set, as is so of every closure. It takes no memory.
+    ///
+    /// # Errors
+    ///
+    /// None, as nothing is there that could be set.
+    pub fn require_empty(&self) -> Result<()>
+        ensures { result ≡ Ok tt }
+    {
+        Ok(())
+    }
+}

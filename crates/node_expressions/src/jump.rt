@@ -14,7 +14,7 @@ pub struct ExprBreak<E> {
     /// The label of what ends.
     pub label: Option<Lifetime>,
     /// What it becomes.
-    pub expr: Option<Box<E>>,
+    pub expr: Option<E>,
 }
 
 /// The next turn of a loop: `continue 'a`.
@@ -36,7 +36,7 @@ pub struct ExprReturn<E> {
     /// `return`
     pub return_token: token::Return,
     /// What it answers.
-    pub expr: Option<Box<E>>,
+    pub expr: Option<E>,
 }
 
 /// A value that a generator gives: `yield x`.
@@ -47,5 +47,5 @@ pub struct ExprYield<E> {
     /// `yield`
     pub yield_token: token::Yield,
     /// The value.
-    pub expr: Option<Box<E>>,
+    pub expr: Option<E>,
 }

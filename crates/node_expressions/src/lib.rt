@@ -9,8 +9,14 @@
 //! - `block`: blocks, and what runs them.
 //! - `branch`: expressions that choose.
 //! - `closure`: closures.
+//! - `convert` (private): structs as the enum that holds them.
+//! - `expr`: expressions, each of one form.
 //! - `jump`: expressions that leave what runs.
+//! - `parse` (private): expressions, statements and what stands in them, read from a stream.
+//! - `parse_alone`, `parse_operands` (private): forms of expressions, read from a stream.
+//! - `placeholder` (private): an expression where none is known yet.
 //! - `statement`: statements.
+//! - `to_tokens` (private): what is printed of them.
 #![tactic(auto)]
 
 pub mod atom;
@@ -18,9 +24,16 @@ pub mod block;
 pub mod branch;
 pub mod call;
 pub mod closure;
+mod convert;
+pub mod expr;
 pub mod jump;
 pub mod operator;
+mod parse;
+mod parse_alone;
+mod parse_operands;
+mod placeholder;
 pub mod statement;
+mod to_tokens;
 
 pub use atom::{
     ExprArray, ExprGroup, ExprInfer, ExprLit, ExprMacro, ExprParen, ExprPath, ExprRepeat,
@@ -33,6 +46,7 @@ pub use block::{
 pub use branch::{Arm, ExprIf, ExprLet, ExprMatch};
 pub use call::{ExprAwait, ExprCall, ExprField, ExprIndex, ExprMethodCall, ExprTry};
 pub use closure::{ClosureModifiers, ExprClosure};
+pub use expr::Expr;
 pub use jump::{ExprBreak, ExprContinue, ExprReturn, ExprYield};
 pub use operator::{
     ExprAssign, ExprBinary, ExprCast, ExprRange, ExprRawAddr, ExprReference, ExprUnary,

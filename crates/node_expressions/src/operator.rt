@@ -11,11 +11,11 @@ pub struct ExprAssign<E> {
     /// The attributes in front of it.
     pub attrs: Vec<Attribute<E>>,
     /// What is assigned to.
-    pub left: Box<E>,
+    pub left: E,
     /// `=`
     pub eq_token: token::Eq,
     /// What is assigned.
-    pub right: Box<E>,
+    pub right: E,
 }
 
 /// An operator between two operands: `a + b` or `a += b`.
@@ -24,11 +24,11 @@ pub struct ExprBinary<E> {
     /// The attributes in front of it.
     pub attrs: Vec<Attribute<E>>,
     /// The left operand.
-    pub left: Box<E>,
+    pub left: E,
     /// The operator.
     pub op: BinOp,
     /// The right operand.
-    pub right: Box<E>,
+    pub right: E,
 }
 
 /// A cast: `x as f64`.
@@ -37,11 +37,11 @@ pub struct ExprCast<E> {
     /// The attributes in front of it.
     pub attrs: Vec<Attribute<E>>,
     /// What is cast.
-    pub expr: Box<E>,
+    pub expr: E,
     /// `as`
     pub as_token: token::As,
     /// The type that it is cast to.
-    pub ty: Box<E>,
+    pub ty: E,
 }
 
 /// A range: `1..2`, `1..`, `..2` or `..`.
@@ -50,11 +50,11 @@ pub struct ExprRange<E> {
     /// The attributes in front of it.
     pub attrs: Vec<Attribute<E>>,
     /// What it begins with.
-    pub start: Option<Box<E>>,
+    pub start: Option<E>,
     /// Whether the end belongs to it.
     pub limits: RangeLimits,
     /// What it ends with.
-    pub end: Option<Box<E>>,
+    pub end: Option<E>,
 }
 
 /// A raw pointer to a place: `&raw const x` or `&raw mut x`.
@@ -69,7 +69,7 @@ pub struct ExprRawAddr<E> {
     /// `const` or `mut`.
     pub mutability: PointerMutability,
     /// The place.
-    pub expr: Box<E>,
+    pub expr: E,
 }
 
 /// A reference: `&x` or `&mut x`.
@@ -82,7 +82,7 @@ pub struct ExprReference<E> {
     /// `mut`, if it is there.
     pub mutability: Option<token::Mut>,
     /// What it refers to.
-    pub expr: Box<E>,
+    pub expr: E,
 }
 
 /// An operator in front of an operand: `!x` or `*x`.
@@ -93,5 +93,5 @@ pub struct ExprUnary<E> {
     /// The operator.
     pub op: UnOp,
     /// The operand.
-    pub expr: Box<E>,
+    pub expr: E,
 }

@@ -1,7 +1,10 @@
 //! Statements.
 
+ghost use Rattle.std.specs.Prelude.{◌≡◌, Ok};
+
 use node_paths::attribute::Attribute;
 use node_paths::mac::Macro;
+use syn_error::Result;
 use syn_kinds::token;
 
 /// A statement.
@@ -27,7 +30,7 @@ pub struct Local<E> {
     /// What stands beside its parts: nothing.
     pub modifiers: LocalModifiers,
     /// The pattern, with its type `Pat::Type`.
-    pub pat: Box<E>,
+    pub pat: E,
     /// What it becomes at first, if that is written.
     pub init: Option<LocalInit<E>>,
     /// `;`
@@ -40,14 +43,27 @@ pub struct LocalInit<E> {
     /// `=`
     pub eq_token: token::Eq,
     /// The value.
-    pub expr: Box<E>,
+    pub expr: E,
     /// `else` and the block that runs where the pattern doesn't match, if they are there.
-    pub diverge: Option<(token::Else, Box<E>)>,
+    pub diverge: Option<(token::Else, E)>,
 }
 
 /// What stands beside the parts of a variable: nothing.
-#[derive(Clone, Copy, Default)]
+#[derive(Clone, Copy, PartialEq, Eq, Default)]
 pub struct LocalModifiers {}
+
+impl LocalModifiers {
+    /// Asks that none is set, as is so of every variable. It takes no memory.
+    ///
+    /// # Errors
+    ///
+    /// None, as nothing is there that could be set.
+    pub fn require_empty(&self) -> Result<()>
+        ensures { result ≡ Ok tt }
+    {
+        Ok(())
+    }
+}
 
 /// A call of a macro as a statement: `println!("{}", x);`.
 #[derive(Drop)]

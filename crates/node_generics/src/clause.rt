@@ -24,7 +24,7 @@ pub enum WherePredicate<E> {
 }
 
 /// A condition on a lifetime: `'a: 'b + 'c`.
-#[derive(Drop)]
+#[derive(Drop, PartialEq, Eq)]
 pub struct PredicateLifetime {
     /// The lifetime.
     pub lifetime: Lifetime,

@@ -5,16 +5,24 @@
 //! - `convert` (private): structs as the enums that hold them.
 //! - `param`: the parameters.
 //! - `clause`: the conditions behind `where`.
+//! - `parse` (private): all these, read from a stream.
 //! - `visibility`: who may name an item.
+//! - `to_tokens` (private): what is printed of them.
 #![tactic(auto)]
+
+ghost use Rattle.std.specs.Prelude.{[], ◌≡◌, None};
+ghost use Rattle.syn_lists.specs.Lists.{separators, values};
 
 pub mod clause;
 mod convert;
 pub mod param;
+mod parse;
+mod to_tokens;
 pub mod visibility;
 
 pub use clause::{PredicateLifetime, PredicateType, WhereClause, WherePredicate};
 pub use param::{ConstParam, GenericParam, TypeParam};
+use std::alloc::Global;
 use syn_kinds::token;
 use syn_lists::Punctuated;
 pub use visibility::{VisRestricted, Visibility};
@@ -30,4 +38,20 @@ pub struct Generics<E> {
     pub gt_token: Option<token::Gt>,
     /// The conditions, if there are any.
     pub where_clause: Option<WhereClause<E>>,
+}
+
+impl<E> Generics<E> {
+    /// No parameters, and no conditions. It takes no memory.
+    pub fn new(alloc: Global) -> Generics<E>
+        ensures brackets { (result.lt_token ≡ None) × (result.gt_token ≡ None) }
+        ensures params { (values result.params ≡ []) × (separators result.params ≡ []) }
+        ensures where_clause { result.where_clause ≡ None }
+    {
+        Generics {
+            lt_token: None,
+            params: Punctuated::new(alloc),
+            gt_token: None,
+            where_clause: None,
+        }
+    }
 }

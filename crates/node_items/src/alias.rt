@@ -34,7 +34,7 @@ pub struct ItemType<E> {
 }
 
 /// Where the conditions of a type with another name stand.
-#[derive(Clone, Copy)]
+#[derive(Clone, Copy, PartialEq, Eq)]
 pub enum WhereClausePlacement {
     /// In front of the `=`.
     Early,

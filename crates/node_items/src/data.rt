@@ -1,10 +1,13 @@
 //! Structs, enums and unions, and their fields.
 
+ghost use Rattle.std.specs.Prelude.{◌≡◌, Ok};
+
 use node_generics::Generics;
 use node_generics::visibility::Visibility;
 use node_paths::attribute::Attribute;
 use node_types::Type;
 use rust_leaf::ident::Ident;
+use syn_error::Result;
 use syn_kinds::token;
 use syn_lists::Punctuated;
 
@@ -57,8 +60,21 @@ pub struct Field<E> {
 }
 
 /// What stands beside the parts of a field: nothing.
-#[derive(Clone, Copy, Default)]
+#[derive(Clone, Copy, PartialEq, Eq, Default)]
 pub struct FieldModifiers {}
+
+impl FieldModifiers {
+    /// Asks that none is set, as is so of every field. It takes no memory.
+    ///
+    /// # Errors
+    ///
+    /// None, as nothing is there that could be set.
+    pub fn require_empty(&self) -> Result<()>
+        ensures { result ≡ Ok tt }
+    {
+        Ok(())
+    }
+}
 
 /// A variant of an enum: `Some(T)` or `Red = 1`.
 #[derive(Drop)]

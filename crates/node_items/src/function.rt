@@ -1,7 +1,9 @@
 //! Functions, and their parameters.
 
+ghost use Rattle.node_items.specs.Receivers.{receiver_in};
 ghost use Rattle.node_items.specs.declared.function.Safety.TheVariants as safeties;
-ghost use Rattle.std.specs.Prelude.{◌≡◌};
+ghost use Rattle.std.specs.Prelude.{◌≡◌, MatchOption, None, Some};
+ghost use Rattle.syn_lists.specs.Lists.{values};
 
 use crate::modifiers::FnModifiers;
 use node_expressions::block::Block;
@@ -58,8 +60,22 @@ pub struct Signature<E> {
     pub output: ReturnType<E>,
 }
 
+impl<E> Signature<E> {
+    /// What the method is called on, if its first parameter says so.
+    pub fn receiver(&self) -> Option<&Receiver<E>>
+        ensures { MatchOption result (receiver_in (values self.now.inputs) ≡ None)
+            (λ r. receiver_in (values self.now.inputs) ≡ Some r.now) }
+    {
+        match self.inputs.first() {
+            Some(FnArg::Receiver(receiver)) => Some(receiver),
+            Some(FnArg::Typed(_)) => None,
+            None => None,
+        }
+    }
+}
+
 /// Whether a function or a foreign item is declared unsafe, or safe.
-#[derive(Clone, Copy)]
+#[derive(Clone, Copy, PartialEq, Eq)]
 pub enum Safety {
     /// It is declared safe.
     Safe(token::Safe),
@@ -108,7 +124,7 @@ pub enum ReceiverKind<E> {
     /// By reference: `&self` or `&'a mut self`.
     Reference(token::And, Option<Lifetime>, Option<token::Mut>),
     /// By a type that is written: `self: Box<Self>`.
-    Typed(token::Colon, Box<E>),
+    Typed(token::Colon, E),
 }
 
 /// Any number of arguments more: `args: ...`.
@@ -117,7 +133,7 @@ pub struct Variadic<E> {
     /// The attributes in front of it.
     pub attrs: Vec<Attribute<E>>,
     /// A pattern for them and `:`, if they are there.
-    pub pat: Option<(Box<E>, token::Colon)>,
+    pub pat: Option<(E, token::Colon)>,
     /// `...`
     pub dots: token::DotDotDot,
     /// `,`, if it is there.

@@ -25,7 +25,7 @@ pub struct ItemUse<E> {
 
 /// What is imported.
 #[cycle(use_tree)]
-#[derive(Drop)]
+#[derive(Drop, PartialEq, Eq)]
 pub enum UseTree {
     /// From a module: `std::..`.
     Path(UsePath),
@@ -41,7 +41,7 @@ pub enum UseTree {
 
 /// An import from a module: `std::..`.
 #[cycle(use_tree)]
-#[derive(Drop)]
+#[derive(Drop, PartialEq, Eq)]
 pub struct UsePath {
     /// The module's name.
     pub ident: Ident,
@@ -52,14 +52,14 @@ pub struct UsePath {
 }
 
 /// A name that is imported: `HashMap`.
-#[derive(Drop)]
+#[derive(Drop, PartialEq, Eq)]
 pub struct UseName {
     /// The name.
     pub ident: Ident,
 }
 
 /// A name that becomes another one here: `HashMap as Map`.
-#[derive(Drop)]
+#[derive(Drop, PartialEq, Eq)]
 pub struct UseRename {
     /// The name.
     pub ident: Ident,
@@ -70,7 +70,7 @@ pub struct UseRename {
 }
 
 /// All names: `*`.
-#[derive(Clone, Copy)]
+#[derive(Clone, Copy, PartialEq, Eq)]
 pub struct UseGlob {
     /// `*`
     pub star_token: token::Star,
@@ -78,7 +78,7 @@ pub struct UseGlob {
 
 /// Several imports: `{A, B}`.
 #[cycle(use_tree)]
-#[derive(Drop)]
+#[derive(Drop, PartialEq, Eq)]
 pub struct UseGroup {
     /// `{ }`
     pub brace_token: token::Brace,

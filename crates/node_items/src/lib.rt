@@ -5,7 +5,12 @@
 //!
 //! - `convert` (private): structs as the enums that hold them.
 //! - `data`: structs, enums and unions, and their fields.
+//! - `fields` (private): the fields of a struct or of a variant, one by one.
+//! - `into_fields`: the same, taken one by one.
+//! - `members`: what fields are named by, one by one.
+//! - `place` (private): where the first token of a type stands.
 //! - `derive`: what a derive reads.
+//! - `derived` (private): what a derive reads of structs, enums and unions.
 //! - `function`: functions, and what may stand for one in a trait.
 //! - `value`: constants and statics.
 //! - `alias`: types with another name.
@@ -16,19 +21,29 @@
 //! - `mac`: calls of macros as items.
 //! - `modifiers`: what may stand in front of an item.
 //! - `file`: files.
+//! - `parse`, `parse_members` (private): items, and what stands in them, read from a stream.
+//! - `to_tokens` (private): what is printed of them.
 #![tactic(auto)]
 
 pub mod alias;
 mod convert;
 pub mod data;
 pub mod derive;
+mod derived;
+mod fields;
 pub mod file;
 pub mod function;
 pub mod implement;
 pub mod import;
+pub mod into_fields;
 pub mod mac;
+pub mod members;
 pub mod modifiers;
 pub mod module;
+mod parse;
+mod parse_members;
+mod place;
+mod to_tokens;
 pub mod traits;
 pub mod value;
 
@@ -42,7 +57,9 @@ pub use file::Frontmatter;
 pub use function::{FnArg, ItemFn, Receiver, ReceiverKind, Safety, Signature, Variadic};
 pub use implement::{ImplItem, ImplItemConst, ImplItemFn, ImplItemMacro, ImplItemType, ItemImpl};
 pub use import::{ItemUse, UseGlob, UseGroup, UseName, UsePath, UseRename, UseTree};
+pub use into_fields::IntoFields;
 pub use mac::ItemMacro;
+pub use members::Members;
 pub use modifiers::{ConstModifiers, FnModifiers, ImplModifiers, TraitModifiers, TypeModifiers};
 pub use module::{
     ForeignItem, ForeignItemFn, ForeignItemMacro, ForeignItemStatic, ForeignItemType,

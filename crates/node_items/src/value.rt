@@ -30,7 +30,7 @@ pub struct ItemConst<E> {
     /// `=`
     pub eq_token: token::Eq,
     /// Its value.
-    pub expr: Box<E>,
+    pub expr: E,
     /// `;`
     pub semi_token: token::Semi,
 }
@@ -55,13 +55,13 @@ pub struct ItemStatic<E> {
     /// `=`
     pub eq_token: token::Eq,
     /// Its value.
-    pub expr: Box<E>,
+    pub expr: E,
     /// `;`
     pub semi_token: token::Semi,
 }
 
 /// Whether a static may be written.
-#[derive(Clone, Copy)]
+#[derive(Clone, Copy, PartialEq, Eq)]
 pub enum StaticMutability {
     /// It may: `mut`.
     Mut(token::Mut),

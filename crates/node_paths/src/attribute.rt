@@ -6,7 +6,7 @@ use proc_macro2::tree::TokenStream;
 use syn_kinds::token;
 
 /// Whether an attribute stands in front of what it is about, or inside it.
-#[derive(Clone, Copy)]
+#[derive(Clone, Copy, PartialEq, Eq)]
 pub enum AttrStyle {
     /// In front: `#[inline]`.
     Outer,

@@ -54,7 +54,7 @@ pub struct TraitBound<E> {
 }
 
 /// Whether a bound is one that need not hold.
-#[derive(Clone, Copy)]
+#[derive(Clone, Copy, PartialEq, Eq)]
 pub enum TraitBoundModifier {
     /// It holds.
     None,
@@ -63,7 +63,7 @@ pub enum TraitBoundModifier {
 }
 
 /// The calling convention of a function: `extern "C"`.
-#[derive(Drop)]
+#[derive(Drop, PartialEq, Eq)]
 pub struct Abi {
     /// `extern`
     pub extern_token: token::Extern,

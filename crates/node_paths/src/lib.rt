@@ -8,13 +8,17 @@
 //! - `mac`: calls of macros.
 //! - `path`: paths, their segments and arguments.
 //! - `bound`: bounds, and the lifetimes that they bind.
+//! - `parse` (private): all these, read from a stream.
+//! - `to_tokens` (private): what is printed of them.
 #![tactic(auto)]
 
 pub mod attribute;
 pub mod bound;
 mod convert;
 pub mod mac;
+mod parse;
 pub mod path;
+mod to_tokens;
 
 pub use attribute::{AttrStyle, Attribute, Meta, MetaList, MetaNameValue};
 pub use bound::{

@@ -5,7 +5,7 @@ use proc_macro2::tree::TokenStream;
 use syn_kinds::token;
 
 /// What encloses the tokens of a macro or of an attribute.
-#[derive(Clone, Copy)]
+#[derive(Clone, Copy, PartialEq, Eq)]
 pub enum MacroDelimiter {
     /// `( )`
     Paren(token::Paren),

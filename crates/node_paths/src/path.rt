@@ -1,5 +1,8 @@
 //! Paths, their segments and arguments.
 
+ghost use Rattle.node_paths.specs.declared.path.ReturnType.TheVariants as returns;
+ghost use Rattle.std.specs.Prelude.{◌≡◌};
+
 use rust_leaf::ident::Ident;
 use syn_kinds::lifetime::Lifetime;
 use syn_kinds::token;
@@ -88,7 +91,16 @@ pub enum ReturnType<E> {
     /// Nothing is written: `()`, or for a closure what its body is.
     Default,
     /// `->` and a type.
-    Type(token::RArrow, Box<E>),
+    Type(token::RArrow, E),
+}
+
+impl<E> Default for ReturnType<E> {
+    ghost is_default = { λ x. x ≡ returns.Default };
+
+    /// Nothing is written.
+    fn default() -> ReturnType<E> {
+        ReturnType::Default
+    }
 }
 
 /// The front of a qualified path: `<T as Iterator>` of `<T as Iterator>::Item`.
@@ -97,7 +109,7 @@ pub struct QSelf<E> {
     /// `<`
     pub lt_token: token::Lt,
     /// The type in front.
-    pub ty: Box<E>,
+    pub ty: E,
     /// How many segments of the path stand before the `>`: 0 where there is no `as`.
     pub position: usize,
     /// `as`, if it is there.

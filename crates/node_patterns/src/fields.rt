@@ -34,7 +34,7 @@ pub struct FieldPat<E> {
     /// `:`, which is missing where the pattern binds the field's own name.
     pub colon_token: Option<token::Colon>,
     /// The pattern.
-    pub pat: Box<E>,
+    pub pat: E,
 }
 
 /// The fields of a struct without names: `Some(x)`.

@@ -20,7 +20,7 @@ pub struct PatIdent<E> {
     /// The name.
     pub ident: Ident,
     /// `@` and the pattern that the value has to match too, if they are there.
-    pub subpat: Option<(token::At, Box<E>)>,
+    pub subpat: Option<(token::At, E)>,
 }
 
 /// A literal, perhaps behind a minus: `-1`.
@@ -53,7 +53,7 @@ pub struct PatParen<E> {
     /// `( )`
     pub paren_token: token::Paren,
     /// The pattern inside.
-    pub pat: Box<E>,
+    pub pat: E,
 }
 
 /// A path as a pattern: `Color::Red` or `<T as Limit>::MAX`.
@@ -73,11 +73,11 @@ pub struct PatRange<E> {
     /// The attributes in front of it.
     pub attrs: Vec<Attribute<E>>,
     /// The pattern that it begins with: a literal or a path.
-    pub start: Option<Box<E>>,
+    pub start: Option<E>,
     /// Whether the end belongs to it.
     pub limits: RangeLimits,
     /// The pattern that it ends with: a literal or a path.
-    pub end: Option<Box<E>>,
+    pub end: Option<E>,
 }
 
 /// What a reference refers to: `&mut x`.
@@ -90,7 +90,7 @@ pub struct PatReference<E> {
     /// `mut`, if it is there.
     pub mutability: Option<token::Mut>,
     /// The pattern of what it refers to.
-    pub pat: Box<E>,
+    pub pat: E,
 }
 
 /// All that is left: `..`.
@@ -130,11 +130,11 @@ pub struct PatType<E> {
     /// The attributes in front of it.
     pub attrs: Vec<Attribute<E>>,
     /// The pattern.
-    pub pat: Box<E>,
+    pub pat: E,
     /// `:`
     pub colon_token: token::Colon,
     /// The type.
-    pub ty: Box<E>,
+    pub ty: E,
 }
 
 /// Anything: `_`.

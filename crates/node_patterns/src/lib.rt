@@ -5,11 +5,13 @@
 //! - `convert` (private): structs as the enums that hold them.
 //! - `kinds`: each kind of pattern.
 //! - `fields`: patterns that take structs apart.
+//! - `to_tokens` (private): what is printed of them.
 #![tactic(auto)]
 
 mod convert;
 pub mod fields;
 pub mod kinds;
+mod to_tokens;
 
 pub use fields::{FieldPat, PatStruct, PatTupleStruct};
 pub use kinds::{

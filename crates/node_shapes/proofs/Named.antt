@@ -3,7 +3,7 @@ use Rattle.std.specs.Prelude.{◌≡◌, Bool, true, false, not, ◌&&◌, List,
 use Rattle.std.proofs.Common.{ap, sym, subst, append_assoc, ◌∙◌}
 use Rattle.std.proofs.lemmas.Bool.{false≢true}
 use Rattle.proc_macro2.specs.Token.{Token}
-use Rattle.syn_grammar.specs.Kind.{AnItem, AStatement, InFile, ItemMacro, Kind, Place, Visibility}
+use Rattle.syn_grammar.specs.Kind.{AnItem, AStatement, ATypeAlias, InFile, ItemMacro, Kind, Place, Visibility}
 use Rattle.syn_grammar.specs.Tree.{Tree, AMark, Called, First, Nil, Node, Pair, Second, flat, marks as signs}
 use Rattle.syn_grammar.specs.Part.{choice, has}
 use Rattle.syn_grammar.specs.Gram.{Gram, Keep, Verdict, alt, judged, ref}
@@ -22,6 +22,7 @@ use Rattle.laws_reread.proofs.ToldItems.{named_told}
 use Rattle.laws_reread.proofs.ToldParts.{of_whole, public_none}
 use Rattle.laws_reread.proofs.ToldPaths.{call_behind}
 use Rattle.node_shapes.specs.Forms.{is_named, is_named_item, stands_named}
+use Rattle.node_shapes.proofs.Numbered.{numbered, placed}
 
 -- behind its path and !
 abbrev a_named : Look
@@ -128,6 +129,9 @@ unnamed i r d f = by (is_named_item i) refl
 
 pub named_stands : (k : Kind) (x : Tree) (r : List Token) → Derives x (table k) r → stands_named k x ≡ true
 unfolding table
+named_stands AnItem (First (Pair a (Pair v (Called m i)))) r d = numbered i r d.1.1.1.1
+named_stands (ATypeAlias p) (Pair w (Pair i (Pair g (Pair b (Pair (Called m x) s))))) r d =
+    placed p x (flat s ++ r) d.1.1.1.1.0.1
 named_stands AStatement (First i) r d = told_named i r d.1 (named_told i r d.1 d.0)
 named_stands AStatement (Second (Second (Second (First i)))) r d = unnamed i r d.1.1.1.1 d.0
 named_stands k x r d = refl

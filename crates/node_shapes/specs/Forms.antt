@@ -1,5 +1,5 @@
 -- The forms of an expression by the operands that they have, and what may stand behind one.
-use Rattle.std.specs.Prelude.{Bool, true, false, not}
+use Rattle.std.specs.Prelude.{ℕ, suc, Bool, true, false, cond, nat_eq, not}
 use Rattle.syn_grammar.specs.Kind.{Kind, ExprLit, ExprPath, ExprMacro, ExprParen, ExprArray, ExprRepeat, ExprGroup}
 use Rattle.syn_grammar.specs.Kind.{ExprInfer, ExprBlock, ExprUnsafe, ExprAsync, ExprConst, ExprTryBlock, ExprIf}
 use Rattle.syn_grammar.specs.Kind.{ExprMatch, ExprLoop, ExprWhile, ExprForLoop, ExprContinue, ExprTypedClosure}
@@ -9,7 +9,9 @@ use Rattle.syn_grammar.specs.Kind.{ExprBreak}
 use Rattle.syn_grammar.specs.Kind.{ExprReturn, ExprYield, ExprClosure, ExprRange, ExprRangeClosed, ExprAssign, ExprOr}
 use Rattle.syn_grammar.specs.Kind.{ExprAnd, ExprCompare, ExprBitOr, ExprBitXor, ExprBitAnd, ExprShift, ExprSum}
 use Rattle.syn_grammar.specs.Kind.{ExprProduct}
-use Rattle.syn_grammar.specs.Kind.{AStatement, Expression, ItemMacro, OuterAttributes}
+use Rattle.syn_grammar.specs.Kind.{AForeignModule, AModule, AStatement, ATrait, ATypeAlias, AnImpl, AnItem, Expression}
+use Rattle.syn_grammar.specs.Kind.{ItemMacro, OuterAttributes}
+use Rattle.syn_grammar.specs.Kept.{is_there}
 use Rattle.syn_grammar.specs.Name.{the_attributes, the_expression}
 use Rattle.syn_grammar.specs.Part.{choice}
 use Rattle.syn_grammar.specs.Tree.{Tree, Pair, First, Second, Called, Node, Whole, Front, Back, Infix}
@@ -119,8 +121,46 @@ abbrev pub is_named_item : Tree → Bool
 is_named_item (Node k (First (Pair a (Pair v (Called m x))))) = is_named (choice x)
 is_named_item x = false
 
--- Among statements such an item is the first alternative, and another one the fourth.
+-- An item's kind and whether unsafe stands in front of it tell which alternative it is: of a module, an extern block,
+-- a trait and an impl there are several.
+
+-- unsafe stands in front
+abbrev pub is_unsafe : Tree → Bool
+is_unsafe (Pair u x) = is_there u
+is_unsafe x = false
+
+-- unsafe stands in front of an impl, and no default before it
+abbrev pub is_unsafe_impl : Tree → Bool
+is_unsafe_impl (Pair (Second d) (Pair c x)) = is_unsafe x
+is_unsafe_impl x = false
+
+-- const stands in front of an impl
+abbrev pub is_const_impl : Tree → Bool
+is_const_impl (Pair d (Pair c x)) = is_there c
+is_const_impl x = false
+
+-- the alternative that is counted so, and those behind it
+abbrev pub is_numbered : ℕ → Tree → Bool
+is_numbered n (Second x) = is_numbered (suc n) x
+is_numbered n (First (Node AForeignModule x)) = cond (nat_eq n 2) (not (is_unsafe x)) (is_unsafe x)
+is_numbered n (First (Node AModule x)) = cond (nat_eq n 12) (not (is_unsafe x)) (is_unsafe x)
+is_numbered n (First (Node ATrait (First x))) = cond (nat_eq n 18) (not (is_unsafe x)) (is_unsafe x)
+is_numbered n (First (Node AnImpl (First x))) =
+    cond (nat_eq n 6) (is_const_impl x) (cond (nat_eq n 19) (not (is_unsafe_impl x)) (is_unsafe_impl x))
+is_numbered n x = true
+
+-- The where clause of a type with another name stands in front of its definition if it is one. Behind it there is one
+-- only if there is a definition.
+abbrev pub is_placed : Tree → Bool
+is_placed (First (Pair (Called n (Node j (Second x))) d)) = false
+is_placed (Second (Pair (Second d) (Called n (Node j (First x))))) = false
+is_placed x = true
+
+-- Among statements such an item is the first alternative, and another one the fourth; an item is the alternative of its
+-- kind; and a where clause stands where it may.
 abbrev pub stands_named : Kind → Tree → Bool
+stands_named AnItem (First (Pair a (Pair v (Called m i)))) = is_numbered 0 i
+stands_named (ATypeAlias p) (Pair w (Pair i (Pair g (Pair b (Pair (Called m x) s))))) = is_placed x
 stands_named AStatement (First i) = is_named_item i
 stands_named AStatement (Second (Second (Second (First i)))) = not (is_named_item i)
 stands_named k x = true

@@ -3,3 +3,4 @@ pub mod Seqs
 pub mod Choices
 pub mod Lists
 pub mod Forms
+pub mod Keeps

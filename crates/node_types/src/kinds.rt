@@ -12,11 +12,11 @@ pub struct TypeArray<E> {
     /// `[ ]`
     pub bracket_token: token::Bracket,
     /// The type of its elements.
-    pub elem: Box<E>,
+    pub elem: E,
     /// `;`
     pub semi_token: token::Semi,
     /// How many they are: an expression.
-    pub len: Box<E>,
+    pub len: E,
 }
 
 /// Some type with bounds: `impl Iterator + 'a`.
@@ -29,14 +29,14 @@ pub struct TypeImplTrait<E> {
 }
 
 /// A type that is found out: `_`.
-#[derive(Clone, Copy)]
+#[derive(Clone, Copy, PartialEq, Eq)]
 pub struct TypeInfer {
     /// `_`
     pub underscore_token: token::Underscore,
 }
 
 /// The type of what doesn't return: `!`.
-#[derive(Clone, Copy)]
+#[derive(Clone, Copy, PartialEq, Eq)]
 pub struct TypeNever {
     /// `!`
     pub bang_token: token::Not,
@@ -48,7 +48,7 @@ pub struct TypeParen<E> {
     /// `( )`
     pub paren_token: token::Paren,
     /// The type inside.
-    pub elem: Box<E>,
+    pub elem: E,
 }
 
 /// A path as a type: `Vec<T>` or `<T as Iterator>::Item`.
@@ -68,11 +68,11 @@ pub struct TypePtr<E> {
     /// `const` or `mut`.
     pub mutability: PointerMutability,
     /// The type of what it points to.
-    pub elem: Box<E>,
+    pub elem: E,
 }
 
 /// Whether what a raw pointer points to may be written.
-#[derive(Clone, Copy)]
+#[derive(Clone, Copy, PartialEq, Eq)]
 pub enum PointerMutability {
     /// It may not: `*const T`.
     Const(token::Const),
@@ -90,7 +90,7 @@ pub struct TypeReference<E> {
     /// `mut`, if it is there.
     pub mutability: Option<token::Mut>,
     /// The type of what it refers to.
-    pub elem: Box<E>,
+    pub elem: E,
 }
 
 /// A slice: `[T]`.
@@ -99,7 +99,7 @@ pub struct TypeSlice<E> {
     /// `[ ]`
     pub bracket_token: token::Bracket,
     /// The type of its elements.
-    pub elem: Box<E>,
+    pub elem: E,
 }
 
 /// A trait object: `dyn Fn() + 'a`.

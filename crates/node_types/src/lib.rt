@@ -5,11 +5,15 @@
 //! - `convert` (private): structs as the enums that hold them.
 //! - `kinds`: each kind of type.
 //! - `function`: function pointers.
+//! - `parse` (private): types that are read from a stream.
+//! - `to_tokens` (private): what is printed of them.
 #![tactic(auto)]
 
 mod convert;
 pub mod function;
 pub mod kinds;
+mod parse;
+mod to_tokens;
 
 pub use function::{FnPtrArg, TypeFnPtr};
 pub use kinds::{

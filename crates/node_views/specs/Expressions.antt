@@ -1,6 +1,5 @@
 -- Expressions. Each is its form, behind its attributes; an expression inside it is the form that `f` makes of it.
 use Rattle.std.specs.Prelude.{ℕ, Option, Some, None}
-use Rattle.std.specs.declared.boxed.Box.{Box}
 use Rattle.syn_grammar.specs.Kind.{Kind}
 use Rattle.syn_grammar.specs.Tree.{Tree}
 use Rattle.syn_lists.specs.Lists.{values}
@@ -39,6 +38,8 @@ use Rattle.node_expressions.specs.declared.call.ExprIndex.{ExprIndex}
 use Rattle.node_expressions.specs.declared.call.ExprMethodCall.{ExprMethodCall}
 use Rattle.node_expressions.specs.declared.call.ExprTry.{ExprTry}
 use Rattle.node_expressions.specs.declared.closure.ExprClosure.{ExprClosure}
+use Rattle.node_expressions.specs.declared.expr.Expr.TheVariants as exprs
+use Rattle.node_expressions.specs.declared.expr.Expr.{Expr}
 use Rattle.node_expressions.specs.declared.jump.ExprBreak.{ExprBreak}
 use Rattle.node_expressions.specs.declared.jump.ExprContinue.{ExprContinue}
 use Rattle.node_expressions.specs.declared.jump.ExprReturn.{ExprReturn}
@@ -67,7 +68,8 @@ use Rattle.syn_leaf.specs.declared.operators.UnOp.TheVariants as uns
 use Rattle.syn_leaf.specs.declared.operators.UnOp.{UnOp}
 use Rattle.syn_lists.specs.declared.punctuated.Punctuated.{Punctuated}
 use Rattle.node_words.specs.Words.{◌▸◌, ◌∶◌, alternative, last, judged, absent, optional, mark, keyword}
-use Rattle.node_words.specs.Words.{underscore, enclosed, mark_or, name, lifetime, list, all_listed, turns, expression}
+use Rattle.node_words.specs.Words.{underscore, enclosed, mark_or, name, lifetime, raw, list, all_listed, turns}
+use Rattle.node_words.specs.Words.{expression}
 use Rattle.node_views.specs.Paths.{lit, index, member, return_type, angle_bracketed, any_path, macro, outer_attributes}
 use Rattle.node_views.specs.Paths.{inner_attributes, bound_lifetimes}
 use Rattle.node_views.specs.Patterns.{several, held}
@@ -93,7 +95,7 @@ expressions f l = list (λ y. expression (f y)) l
 
 abbrev pub expr_paren : {E : Type 0} → (E → Tree) → ExprParen E → Tree
 expr_paren f x =
-    attributed f x.attrs.items (t.Alone k.ExprParen (enclosed x.paren_token (t.Final (expression (f x.expr.value)))))
+    attributed f x.attrs.items (t.Alone k.ExprParen (enclosed x.paren_token (t.Final (expression (f x.expr)))))
 
 -- of one expression the comma behind it is what makes it a tuple, and none is added
 abbrev pub expr_tuple : {E : Type 0} → (E → Tree) → ExprTuple E → Tree
@@ -105,13 +107,13 @@ expr_array f x = attributed f x.attrs.items (t.Alone k.ExprArray (enclosed x.bra
 -- [Expr ; Expr]
 abbrev pub expr_repeat : {E : Type 0} → (E → Tree) → ExprRepeat E → Tree
 expr_repeat f x =
-    attributed f x.attrs.items (t.Alone k.ExprRepeat (enclosed x.bracket_token (expression (f x.expr.value)
-    ▸ mark x.semi_token ▸ expression (f x.len.value))))
+    attributed f x.attrs.items (t.Alone k.ExprRepeat (enclosed x.bracket_token (expression (f x.expr)
+    ▸ mark x.semi_token ▸ expression (f x.len))))
 
 -- an invisible group
 abbrev pub expr_group : {E : Type 0} → (E → Tree) → ExprGroup E → Tree
 expr_group f x =
-    attributed f x.attrs.items (t.Alone k.ExprGroup (t.Group delimiter.None (expression (f x.expr.value))))
+    attributed f x.attrs.items (t.Alone k.ExprGroup (t.Group delimiter.None (expression (f x.expr))))
 
 -- blocks
 
@@ -151,12 +153,12 @@ expr_loop f x =
 abbrev pub expr_while : {E : Type 0} → (E → Tree) → ExprWhile E → Tree
 expr_while f x =
     attributed f x.attrs.items (t.Alone k.ExprWhile (optional label x.label ▸ keyword x.while_token
-    ▸ condition (f x.cond.value) ▸ body f x.attrs.items x.body))
+    ▸ condition (f x.cond) ▸ body f x.attrs.items x.body))
 
 abbrev pub expr_for_loop : {E : Type 0} → (E → Tree) → ExprForLoop E → Tree
 expr_for_loop f x =
     attributed f x.attrs.items (t.Alone k.ExprForLoop (optional label x.label ▸ keyword x.for_token
-    ▸ several (f x.pat.value) ▸ keyword x.in_token ▸ condition (f x.expr.value)
+    ▸ several (f x.pat) ▸ keyword x.in_token ▸ condition (f x.expr)
     ▸ body f x.attrs.items x.body))
 
 -- if condition block (else (if .. or block))?
@@ -164,17 +166,17 @@ abbrev pub else_operand : Tree → Tree
 else_operand (t.Alone k.ExprIf x) = t.First (t.Node k.ExprIf x)
 else_operand x = t.Second (as_block x)
 
-abbrev pub else_branch : {E A : Type 0} → (E → Tree) → Keyword 12 × Box E A → Tree
-else_branch f x = keyword x.0 ▸ else_operand (f x.1.value)
+abbrev pub else_branch : {E : Type 0} → (E → Tree) → Keyword 12 × E → Tree
+else_branch f x = keyword x.0 ▸ else_operand (f x.1)
 
 abbrev pub expr_if : {E : Type 0} → (E → Tree) → ExprIf E → Tree
 expr_if f x =
-    attributed f x.attrs.items (t.Alone k.ExprIf (keyword x.if_token ▸ condition (f x.cond.value)
+    attributed f x.attrs.items (t.Alone k.ExprIf (keyword x.if_token ▸ condition (f x.cond)
     ▸ block f x.then_branch ▸ optional (else_branch f) x.else_branch))
 
 -- if Expr, behind an arm's pattern
-abbrev pub guard : {E A : Type 0} → (E → Tree) → Keyword 19 × Box E A → Tree
-guard f x = keyword x.0 ▸ expression (f x.1.value)
+abbrev pub guard : {E : Type 0} → (E → Tree) → Keyword 19 × E → Tree
+guard f x = keyword x.0 ▸ expression (f x.1)
 
 abbrev pub arm_comma : Option (Punctuation 7 1) → Tree
 arm_comma None = last 2 t.Nil
@@ -183,19 +185,19 @@ arm_comma (Some m) = alternative 1 (mark m)
 abbrev pub arm : {E : Type 0} → (E → Tree) → Arm E → Tree
 arm f x =
     t.Node k.Arm (judged (outer_attributes f x.attrs.items ▸ several (f x.pat) ▸ optional (guard f) x.guard
-    ▸ mark x.fat_arrow_token ▸ n.the_body ∶ expression (f x.body.value) ▸ n.the_comma ∶ arm_comma x.comma))
+    ▸ mark x.fat_arrow_token ▸ n.the_body ∶ expression (f x.body) ▸ n.the_comma ∶ arm_comma x.comma))
 
 -- match condition { inner attributes, arms }
 abbrev pub expr_match : {E : Type 0} → (E → Tree) → ExprMatch E → Tree
 expr_match f x =
-    attributed f x.attrs.items (t.Alone k.ExprMatch (keyword x.match_token ▸ condition (f x.expr.value)
+    attributed f x.attrs.items (t.Alone k.ExprMatch (keyword x.match_token ▸ condition (f x.expr)
     ▸ enclosed x.brace_token (inner_attributes f x.attrs.items ▸ t.Node k.Arms (turns (arm f) x.arms.items))))
 
 -- let Pat = before a value
 abbrev pub expr_let : {E : Type 0} → (E → Tree) → ExprLet E → Tree
 expr_let f x =
-    attributed f x.attrs.items (t.Front k.ExprLet (keyword x.let_token ▸ several (f x.pat.value)
-    ▸ mark x.eq_token) (f x.expr.value))
+    attributed f x.attrs.items (t.Front k.ExprLet (keyword x.let_token ▸ several (f x.pat)
+    ▸ mark x.eq_token) (f x.expr))
 
 -- closures
 
@@ -220,13 +222,13 @@ closure f (returns.«Type» m x) h y =
 
 abbrev pub expr_closure : {E : Type 0} → (E → Tree) → ExprClosure E → Tree
 expr_closure f x =
-    attributed f x.attrs.items (closure f x.output (closure_head f x) (f x.body.value))
+    attributed f x.attrs.items (closure f x.output (closure_head f x) (f x.body))
 
 -- postfix forms
 
 abbrev pub expr_call : {E : Type 0} → (E → Tree) → ExprCall E → Tree
 expr_call f x =
-    attributed f x.attrs.items (t.Back (f x.func.value) k.ExprCall (enclosed x.paren_token (expressions f x.args)))
+    attributed f x.attrs.items (t.Back (f x.func) k.ExprCall (enclosed x.paren_token (expressions f x.args)))
 
 -- a dot, without numbers behind it
 abbrev pub dot : {K N : ℕ} → Punctuation K N → Tree
@@ -234,7 +236,7 @@ dot m = mark m ▸ n.the_indices ∶ t.End
 
 abbrev pub expr_method_call : {E : Type 0} → (E → Tree) → ExprMethodCall E → Tree
 expr_method_call f x =
-    attributed f x.attrs.items (t.Back (f x.receiver.value) k.ExprMethodCall (dot x.dot_token
+    attributed f x.attrs.items (t.Back (f x.receiver) k.ExprMethodCall (dot x.dot_token
     ▸ n.the_name ∶ name x.method ▸ optional (angle_bracketed f) x.turbofish
     ▸ enclosed x.paren_token (expressions f x.args)))
 
@@ -244,25 +246,25 @@ field_member (members.Unnamed x) = t.Second (n.the_value ∶ index x)
 
 abbrev pub expr_field : {E : Type 0} → (E → Tree) → ExprField E → Tree
 expr_field f x =
-    attributed f x.attrs.items (t.Back (f x.base.value) k.ExprField (dot x.dot_token ▸ field_member x.member))
+    attributed f x.attrs.items (t.Back (f x.base) k.ExprField (dot x.dot_token ▸ field_member x.member))
 
 abbrev pub expr_await : {E : Type 0} → (E → Tree) → ExprAwait E → Tree
 expr_await f x =
-    attributed f x.attrs.items (t.Back (f x.base.value) k.ExprAwait (dot x.dot_token ▸ keyword x.await_token))
+    attributed f x.attrs.items (t.Back (f x.base) k.ExprAwait (dot x.dot_token ▸ keyword x.await_token))
 
 abbrev pub expr_index : {E : Type 0} → (E → Tree) → ExprIndex E → Tree
 expr_index f x =
-    attributed f x.attrs.items (t.Back (f x.expr.value) k.ExprIndex
-    (enclosed x.bracket_token (expression (f x.index.value))))
+    attributed f x.attrs.items (t.Back (f x.expr) k.ExprIndex
+    (enclosed x.bracket_token (expression (f x.index))))
 
 abbrev pub expr_try : {E : Type 0} → (E → Tree) → ExprTry E → Tree
-expr_try f x = attributed f x.attrs.items (t.Back (f x.expr.value) k.ExprTry (mark x.question_token))
+expr_try f x = attributed f x.attrs.items (t.Back (f x.expr) k.ExprTry (mark x.question_token))
 
 -- as Type; no postfix form follows
 abbrev pub expr_cast : {E : Type 0} → (E → Tree) → ExprCast E → Tree
 expr_cast f x =
-    attributed f x.attrs.items (t.Back (f x.expr.value) k.ExprCast (keyword x.as_token
-    ▸ n.the_type ∶ f x.ty.value ▸ absent))
+    attributed f x.attrs.items (t.Back (f x.expr) k.ExprCast (keyword x.as_token
+    ▸ n.the_type ∶ f x.ty ▸ absent))
 
 -- attributes, and an Ident alone, or Member : Expr
 abbrev pub value_form : {E : Type 0} → (E → Tree) → Member → Option (Punctuation 6 1) → E → Tree
@@ -278,15 +280,15 @@ abbrev pub a_field_value : {E : Type 0} → (E → Tree) → FieldValue E → Tr
 a_field_value f x = t.Node k.AFieldValue (t.Second (field_value f x))
 
 -- .. Expr?, which is the last, with a comma before it; the .. is filled in before an expression
-abbrev pub base : {E A : Type 0} → (E → Tree) → Option (Box E A) → Tree
+abbrev pub base : {E : Type 0} → (E → Tree) → Option E → Tree
 base f None = t.First t.Nil
-base f (Some x) = t.Second (expression (f x.value))
+base f (Some x) = t.Second (expression (f x))
 
-abbrev pub field_base : {E A : Type 0} → (E → Tree) → Option (Punctuation 10 2) → Option (Box E A) → Tree
+abbrev pub field_base : {E : Type 0} → (E → Tree) → Option (Punctuation 10 2) → Option E → Tree
 field_base f m x = t.Node k.AFieldValue (t.First (n.the_base ∶ (mark_or m ▸ base f x)))
 
 abbrev pub fields_then :
-    {E P A : Type 0} → (E → Tree) → Punctuated (FieldValue E) P → Option (Punctuation 10 2) → Option (Box E A)
+    {E P : Type 0} → (E → Tree) → Punctuated (FieldValue E) P → Option (Punctuation 10 2) → Option E
     → Tree
 fields_then f l None None = list (a_field_value f) l
 fields_then f l m x = all_listed 44 (a_field_value f) (values l) (t.Final (field_base f m x))
@@ -305,12 +307,12 @@ un_op (uns.Not m) = alternative 1 (mark m)
 un_op (uns.Neg m) = alternative 2 (mark m)
 
 abbrev pub expr_unary : {E : Type 0} → (E → Tree) → ExprUnary E → Tree
-expr_unary f x = attributed f x.attrs.items (t.Front k.ExprUnary (un_op x.op) (f x.expr.value))
+expr_unary f x = attributed f x.attrs.items (t.Front k.ExprUnary (un_op x.op) (f x.expr))
 
 abbrev pub expr_reference : {E : Type 0} → (E → Tree) → ExprReference E → Tree
 expr_reference f x =
     attributed f x.attrs.items (t.Front k.ExprReference (mark x.and_token ▸ optional keyword x.mutability)
-    (f x.expr.value))
+    (f x.expr))
 
 abbrev pub raw_mutability : PointerMutability → Tree
 raw_mutability (mutabilities.Const w) = keyword w
@@ -319,13 +321,13 @@ raw_mutability (mutabilities.Mut w) = keyword w
 abbrev pub expr_raw_addr : {E : Type 0} → (E → Tree) → ExprRawAddr E → Tree
 expr_raw_addr f x =
     attributed f x.attrs.items (t.Front k.ExprRawAddr (mark x.and_token ▸ keyword x.raw
-    ▸ raw_mutability x.mutability) (f x.expr.value))
+    ▸ raw_mutability x.mutability) (f x.expr))
 
 -- jumps: the operand may be missing
 
-abbrev pub jump : {E A : Type 0} → (E → Tree) → Kind → Tree → Option (Box E A) → Tree
+abbrev pub jump : {E : Type 0} → (E → Tree) → Kind → Tree → Option E → Tree
 jump f i y None = t.Alone i y
-jump f i y (Some x) = t.Front i y (f x.value)
+jump f i y (Some x) = t.Front i y (f x)
 
 -- no : stands behind the label
 abbrev pub break_label : Lifetime → Tree
@@ -370,8 +372,8 @@ expr_range f x =
 
 abbrev pub expr_assign : {E : Type 0} → (E → Tree) → ExprAssign E → Tree
 expr_assign f x =
-    attributed f x.attrs.items (t.Infix (f x.left.value) k.ExprAssign (alternative 0 (mark x.eq_token))
-    (f x.right.value))
+    attributed f x.attrs.items (t.Infix (f x.left) k.ExprAssign (alternative 0 (mark x.eq_token))
+    (f x.right))
 
 -- an operator's kind is its level's
 abbrev pub bin_op_kind : BinOp → Kind
@@ -437,4 +439,47 @@ bin_op (bins.ShrAssign m) = alternative 10 (mark m)
 
 abbrev pub expr_binary : {E : Type 0} → (E → Tree) → ExprBinary E → Tree
 expr_binary f x =
-    attributed f x.attrs.items (t.Infix (f x.left.value) (bin_op_kind x.op) (bin_op x.op) (f x.right.value))
+    attributed f x.attrs.items (t.Infix (f x.left) (bin_op_kind x.op) (bin_op x.op) (f x.right))
+
+-- An expression, by its form. Tokens that are kept as they are have no attributes of their own in front.
+abbrev pub expr : {E : Type 0} → (E → Tree) → Expr E → Tree
+expr f (exprs.Array x) = expr_array f x
+expr f (exprs.Assign x) = expr_assign f x
+expr f (exprs.Async x) = expr_async f x
+expr f (exprs.Await x) = expr_await f x
+expr f (exprs.Binary x) = expr_binary f x
+expr f (exprs.Block x) = expr_block f x
+expr f (exprs.Break x) = expr_break f x
+expr f (exprs.Call x) = expr_call f x
+expr f (exprs.Cast x) = expr_cast f x
+expr f (exprs.Closure x) = expr_closure f x
+expr f (exprs.Const x) = expr_const f x
+expr f (exprs.Continue x) = expr_continue f x
+expr f (exprs.Field x) = expr_field f x
+expr f (exprs.ForLoop x) = expr_for_loop f x
+expr f (exprs.Group x) = expr_group f x
+expr f (exprs.If x) = expr_if f x
+expr f (exprs.Index x) = expr_index f x
+expr f (exprs.Infer x) = expr_infer f x
+expr f (exprs.Let x) = expr_let f x
+expr f (exprs.Lit x) = expr_lit f x
+expr f (exprs.Loop x) = expr_loop f x
+expr f (exprs.Macro x) = expr_macro f x
+expr f (exprs.Match x) = expr_match f x
+expr f (exprs.MethodCall x) = expr_method_call f x
+expr f (exprs.Paren x) = expr_paren f x
+expr f (exprs.Path x) = expr_path f x
+expr f (exprs.Range x) = expr_range f x
+expr f (exprs.RawAddr x) = expr_raw_addr f x
+expr f (exprs.Reference x) = expr_reference f x
+expr f (exprs.Repeat x) = expr_repeat f x
+expr f (exprs.Return x) = expr_return f x
+expr f (exprs.Struct x) = expr_struct f x
+expr f (exprs.Try x) = expr_try f x
+expr f (exprs.TryBlock x) = expr_try_block f x
+expr f (exprs.Tuple x) = expr_tuple f x
+expr f (exprs.Unary x) = expr_unary f x
+expr f (exprs.Unsafe x) = expr_unsafe f x
+expr f (exprs.Verbatim ts) = raw ts
+expr f (exprs.While x) = expr_while f x
+expr f (exprs.Yield x) = expr_yield f x

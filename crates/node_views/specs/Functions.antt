@@ -1,6 +1,5 @@
 -- Functions: signatures, parameters and receivers.
 use Rattle.std.specs.Prelude.{List, Option, Some, None}
-use Rattle.std.specs.declared.boxed.Box.{Box}
 use Rattle.rust_leaf.specs.declared.punct.Spacing.TheVariants.{Alone}
 use Rattle.syn_grammar.specs.Kind.{Place}
 use Rattle.syn_grammar.specs.Tree.{Tree}
@@ -43,7 +42,7 @@ receiver_of f (receivers.Reference a l m) o s =
     t.First (mark a ▸ optional lifetime l ▸ optional keyword m ▸ keyword s)
 receiver_of f receivers.Value o s = t.Second (optional keyword o ▸ keyword s ▸ absent)
 receiver_of f (receivers.Typed c x) o s =
-    t.Second (optional keyword o ▸ keyword s ▸ t.First (mark c ▸ f x.value))
+    t.Second (optional keyword o ▸ keyword s ▸ t.First (mark c ▸ f x))
 
 abbrev pub receiver_form : {E : Type 0} → (E → Tree) → Receiver E → Tree
 receiver_form f x = t.Node k.Receiver (receiver_of f x.kind x.mutability x.self_token)
@@ -56,8 +55,8 @@ receiver f x =
 -- a parameter with a pattern: its attributes, and one alternative : Type
 abbrev pub typed : {E : Type 0} → (E → Tree) → PatType E → Tree
 typed f x =
-    t.Node k.Parameter (outer_attributes f x.attrs.items ▸ last 3 (n.the_pattern ∶ f x.pat.value
-    ▸ mark x.colon_token ▸ t.Second (n.the_type ∶ f x.ty.value)))
+    t.Node k.Parameter (outer_attributes f x.attrs.items ▸ last 3 (n.the_pattern ∶ f x.pat
+    ▸ mark x.colon_token ▸ t.Second (n.the_type ∶ f x.ty)))
 
 abbrev pub fn_arg : {E : Type 0} → (E → Tree) → FnArg E → Tree
 fn_arg f (args.Receiver x) = receiver f x
@@ -65,9 +64,9 @@ fn_arg f (args.Typed x) = typed f x
 
 -- ..., or one alternative : ...
 abbrev pub dots :
-    {E A : Type 0} → (E → Tree) → Option (Box E A × Punctuation 6 1) → Punctuation 11 3 → Tree
+    {E : Type 0} → (E → Tree) → Option (E × Punctuation 6 1) → Punctuation 11 3 → Tree
 dots f None m = alternative 1 (n.the_dots ∶ mark m)
-dots f (Some p) m = last 3 (n.the_pattern ∶ f p.0.value ▸ mark p.1 ▸ t.First (n.the_dots ∶ mark m))
+dots f (Some p) m = last 3 (n.the_pattern ∶ f p.0 ▸ mark p.1 ▸ t.First (n.the_dots ∶ mark m))
 
 abbrev pub variadic : {E : Type 0} → (E → Tree) → Variadic E → Tree
 variadic f x = t.Node k.Parameter (outer_attributes f x.attrs.items ▸ dots f x.pat x.dots)

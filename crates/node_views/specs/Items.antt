@@ -57,7 +57,7 @@ const_form w i c x v s =
 abbrev pub item_const : {E : Type 0} → (E → Tree) → ItemConst E → Tree
 item_const f x =
     item_of f x.attrs.items (visibility f x.vis) (alternative 7 (const_form x.const_token x.ident
-    (mark x.colon_token) (type_ f x.ty.value) (t.First (value f (x.eq_token, x.expr.value))) (mark x.semi_token)))
+    (mark x.colon_token) (type_ f x.ty.value) (t.First (value f (x.eq_token, x.expr))) (mark x.semi_token)))
 
 abbrev pub static_mutability : StaticMutability → Tree
 static_mutability (statics.Mut w) = t.First (keyword w)
@@ -71,7 +71,7 @@ static_form w m i c x v s =
 abbrev pub item_static : {E : Type 0} → (E → Tree) → ItemStatic E → Tree
 item_static f x =
     item_of f x.attrs.items (visibility f x.vis) (alternative 4 (static_form x.static_token x.mutability x.ident
-    (mark x.colon_token) (type_ f x.ty.value) (t.First (value f (x.eq_token, x.expr.value))) (mark x.semi_token)))
+    (mark x.colon_token) (type_ f x.ty.value) (t.First (value f (x.eq_token, x.expr))) (mark x.semi_token)))
 
 -- structs, enums, unions
 

@@ -10,3 +10,4 @@ pub mod Functions
 pub mod Items
 pub mod Members
 pub mod Imports
+pub mod Singles

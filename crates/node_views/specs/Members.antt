@@ -142,8 +142,7 @@ impl_item_type f x =
 
 abbrev pub impl_item_macro : {E : Type 0} → (E → Tree) → ImplItemMacro E → Tree
 impl_item_macro f x =
-    impl_item_of f x.attrs.items private None
-    (alternative 3 (macro_form f k.InImpl x.mac t.Nil x.semi_token))
+    impl_item_of f x.attrs.items private None (alternative 3 (macro_form f k.InImpl x.mac t.Nil x.semi_token))
 
 abbrev pub impl_item : {E : Type 0} → (E → Tree) → ImplItem E → Tree
 impl_item f (impls.Const x) = impl_item_const f x

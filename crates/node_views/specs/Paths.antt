@@ -84,12 +84,12 @@ member (members.Unnamed x) = t.Node k.Member (t.Second (index x))
 -- (-> Type)?
 abbrev pub return_type : {E : Type 0} → (E → Tree) → ReturnType E → Tree
 return_type f returns.Default = t.Node (k.ReturnType k.WithPlus) absent
-return_type f (returns.«Type» m x) = t.Node (k.ReturnType k.WithPlus) (t.First (mark m ▸ n.the_type ∶ f x.value))
+return_type f (returns.«Type» m x) = t.Node (k.ReturnType k.WithPlus) (t.First (mark m ▸ n.the_type ∶ f x))
 
 -- the same behind arguments in parentheses
 abbrev pub output : {E : Type 0} → (E → Tree) → ReturnType E → Tree
 output f returns.Default = absent
-output f (returns.«Type» m x) = t.First (mark m ▸ f x.value)
+output f (returns.«Type» m x) = t.First (mark m ▸ f x)
 
 -- arguments
 
@@ -208,7 +208,7 @@ behind_trait (suc n) m ps = mark_at n ps
 -- < Type (as Path)? > :: segments
 abbrev pub qualified_path : {E : Type 0} → (E → Tree) → QSelf E → Path E → Tree
 qualified_path f q x =
-    t.Node (k.QualifiedPath k.AtType) (mark q.lt_token ▸ f q.ty.value ▸ as_trait f q x ▸ mark q.gt_token
+    t.Node (k.QualifiedPath k.AtType) (mark q.lt_token ▸ f q.ty ▸ as_trait f q x ▸ mark q.gt_token
     ▸ behind_trait q.position x.leading_colon (separators x.segments)
     ▸ segments f (drop q.position (values x.segments)) (drop q.position (separators x.segments)))
 

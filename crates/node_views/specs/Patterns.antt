@@ -2,7 +2,6 @@
 -- stand, `several` makes the second of the first. Attributes of a pattern, as a closure's parameter can have them,
 -- stand in front of it.
 use Rattle.std.specs.Prelude.{ℕ, List, [], ◌∷◌, Option, Some, None}
-use Rattle.std.specs.declared.boxed.Box.{Box}
 use Rattle.syn_grammar.specs.Tree.{Tree}
 use Rattle.syn_lists.specs.Lists.{values, separators}
 use Rattle.syn_grammar.specs.Kind as k
@@ -52,8 +51,8 @@ abbrev pub behind_attributes : {E : Type 0} → (E → Tree) → List (Attribute
 behind_attributes f a x = behind_turns (turns (attribute f) (outer a)) x
 
 -- ref? mut? Ident (@ alternative)?; no ! stands behind it
-abbrev pub subpattern : {E A : Type 0} → (E → Tree) → Punctuation 3 1 × Box E A → Tree
-subpattern f x = mark x.0 ▸ f x.1.value
+abbrev pub subpattern : {E : Type 0} → (E → Tree) → Punctuation 3 1 × E → Tree
+subpattern f x = mark x.0 ▸ f x.1
 
 abbrev pub pat_ident : {E : Type 0} → (E → Tree) → PatIdent E → Tree
 pat_ident f x =
@@ -77,7 +76,7 @@ in_parentheses x = one_pattern (alternative 4 (t.Node k.TuplePattern x))
 
 abbrev pub pat_paren : {E : Type 0} → (E → Tree) → PatParen E → Tree
 pat_paren f x =
-    behind_attributes f x.attrs.items (in_parentheses (enclosed x.paren_token (t.Final (several (f x.pat.value)))))
+    behind_attributes f x.attrs.items (in_parentheses (enclosed x.paren_token (t.Final (several (f x.pat)))))
 
 abbrev pub pat_tuple : {E : Type 0} → (E → Tree) → PatTuple E → Tree
 pat_tuple f x =
@@ -92,7 +91,7 @@ pat_slice f x =
 abbrev pub pat_reference : {E : Type 0} → (E → Tree) → PatReference E → Tree
 pat_reference f x =
     behind_attributes f x.attrs.items (one_pattern (alternative 6 (t.Node k.ReferencePattern (mark x.and_token
-    ▸ optional keyword x.mutability ▸ f x.pat.value))))
+    ▸ optional keyword x.mutability ▸ f x.pat))))
 
 -- literals and paths, alone or as a range's start
 
@@ -151,9 +150,9 @@ abbrev pub range_form : Option Tree → RangeLimits → Option Tree → Tree
 range_form None l e = one_pattern (alternative 2 (t.Node k.RangeToPattern (range_mark l ▸ given range_bound e)))
 range_form (Some b) l e = range_from (range_bound b) (range_end l e)
 
-abbrev pub held : {E A : Type 0} → (E → Tree) → Option (Box E A) → Option Tree
+abbrev pub held : {E : Type 0} → (E → Tree) → Option E → Option Tree
 held f None = None
-held f (Some x) = Some (f x.value)
+held f (Some x) = Some (f x)
 
 abbrev pub pat_range : {E : Type 0} → (E → Tree) → PatRange E → Tree
 pat_range f x = behind_attributes f x.attrs.items (range_form (held f x.start) x.limits (held f x.end))
@@ -168,8 +167,8 @@ shorthand x = x
 
 -- Member : Pat, or ref? mut? Ident
 abbrev pub field_form : {E : Type 0} → (E → Tree) → Option (Punctuation 6 1) → FieldPat E → Tree
-field_form f None x = last 2 (shorthand (f x.pat.value))
-field_form f (Some c) x = alternative 1 (member x.member ▸ mark c ▸ several (f x.pat.value))
+field_form f None x = last 2 (shorthand (f x.pat))
+field_form f (Some c) x = alternative 1 (member x.member ▸ mark c ▸ several (f x.pat))
 
 abbrev pub field_pat : {E : Type 0} → (E → Tree) → FieldPat E → Tree
 field_pat f x = t.Node k.FieldPattern (outer_attributes f x.attrs.items ▸ field_form f x.colon_token x)
@@ -210,8 +209,8 @@ pat_or f x =
 -- a pattern and its type: as a closure's parameter is
 abbrev pub pat_type : {E : Type 0} → (E → Tree) → PatType E → Tree
 pat_type f x =
-    t.Node k.ClosureParam (outer_attributes f x.attrs.items ▸ f x.pat.value
-    ▸ t.First (mark x.colon_token ▸ f x.ty.value))
+    t.Node k.ClosureParam (outer_attributes f x.attrs.items ▸ f x.pat
+    ▸ t.First (mark x.colon_token ▸ f x.ty))
 
 abbrev pub pat : {E : Type 0} → (E → Tree) → Pat E → Tree
 pat f (pats.«Ident» x) = pat_ident f x

@@ -1,6 +1,5 @@
 -- Statements and blocks. Where a pattern may have a type behind it, both are one value.
 use Rattle.std.specs.Prelude.{Bool, true, false, List, [], Option, Some, None, cond}
-use Rattle.std.specs.declared.boxed.Box.{Box}
 use Rattle.syn_grammar.specs.Tree.{Tree, flat}
 use Rattle.syn_grammar.specs.Part.{choice}
 use Rattle.syn_grammar.specs.Statements.{ends_in_braces}
@@ -71,13 +70,13 @@ else_block (t.Front k.ExprAttributed a (t.Alone k.ExprBlock x)) =
     expression (t.Front k.ExprAttributed a (t.Alone k.ExprBlock x))
 else_block x = in_braces x
 
-abbrev pub diverge : {E A : Type 0} → (E → Tree) → Keyword 12 × Box E A → Tree
-diverge f x = n.the_else ∶ (keyword x.0 ▸ else_block (f x.1.value))
+abbrev pub diverge : {E : Type 0} → (E → Tree) → Keyword 12 × E → Tree
+diverge f x = n.the_else ∶ (keyword x.0 ▸ else_block (f x.1))
 
 -- = value (else block)?
 abbrev pub local_init : {E : Type 0} → (E → Tree) → LocalInit E → Tree
 local_init f x =
-    mark x.eq_token ▸ n.the_value ∶ expression (let_value x.diverge (f x.expr.value))
+    mark x.eq_token ▸ n.the_value ∶ expression (let_value x.diverge (f x.expr))
     ▸ optional (diverge f) x.diverge
 
 -- One alternative (: Type)?, of a pattern, which may say its type. Attributes of its own, as only a hand can put them
@@ -94,7 +93,7 @@ let_pattern x y = x ▸ absent ▸ y
 abbrev pub local : {E : Type 0} → (E → Tree) → Local E → Tree
 local f x =
     outer_attributes f x.attrs.items ▸ t.Node k.ALet (judged (keyword x.let_token
-    ▸ let_pattern (f x.pat.value) (optional (local_init f) x.init ▸ mark x.semi_token)))
+    ▸ let_pattern (f x.pat) (optional (local_init f) x.init ▸ mark x.semi_token)))
 
 -- statements
 

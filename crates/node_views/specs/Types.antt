@@ -28,17 +28,17 @@ use Rattle.node_views.specs.Paths.{return_type, any_path, outer_attributes, boun
 
 -- [Type]
 abbrev pub type_slice : {E : Type 0} → (E → Tree) → TypeSlice E → Tree
-type_slice f x = t.Node k.BracketType (enclosed x.bracket_token (f x.elem.value ▸ absent))
+type_slice f x = t.Node k.BracketType (enclosed x.bracket_token (f x.elem ▸ absent))
 
 -- [Type ; Expr]
 abbrev pub type_array : {E : Type 0} → (E → Tree) → TypeArray E → Tree
 type_array f x =
-    t.Node k.BracketType (enclosed x.bracket_token (f x.elem.value
-    ▸ t.First (mark x.semi_token ▸ n.the_value ∶ expression (f x.len.value))))
+    t.Node k.BracketType (enclosed x.bracket_token (f x.elem
+    ▸ t.First (mark x.semi_token ▸ n.the_value ∶ expression (f x.len))))
 
 -- (Type)
 abbrev pub type_paren : {E : Type 0} → (E → Tree) → TypeParen E → Tree
-type_paren f x = t.Node k.TupleType (enclosed x.paren_token (t.Final (f x.elem.value)))
+type_paren f x = t.Node k.TupleType (enclosed x.paren_token (t.Final (f x.elem)))
 
 -- (types); of one type the comma behind it is what makes it a tuple, and none is added
 abbrev pub type_tuple : {E : Type 0} → (E → Tree) → TypeTuple E → Tree
@@ -54,7 +54,7 @@ type_infer x = t.Node k.InferType (underscore x.underscore_token)
 abbrev pub type_reference : {E : Type 0} → (E → Tree) → TypeReference E → Tree
 type_reference f x =
     t.Node k.ReferenceType (mark x.and_token ▸ optional lifetime x.lifetime ▸ optional keyword x.mutability
-    ▸ f x.elem.value)
+    ▸ f x.elem)
 
 -- const or mut
 abbrev pub pointer_mutability : PointerMutability → Tree
@@ -64,7 +64,7 @@ pointer_mutability (mutabilities.Mut w) = t.Second (keyword w)
 -- * const Type or * mut Type
 abbrev pub type_ptr : {E : Type 0} → (E → Tree) → TypePtr E → Tree
 type_ptr f x =
-    t.Node k.PointerType (mark x.star_token ▸ pointer_mutability x.mutability ▸ f x.elem.value)
+    t.Node k.PointerType (mark x.star_token ▸ pointer_mutability x.mutability ▸ f x.elem)
 
 -- dyn and impl, and bounds
 abbrev pub type_trait_object : {E : Type 0} → (E → Tree) → TypeTraitObject E → Tree

@@ -1,0 +1,4 @@
+pub mod JumpParts
+pub mod Operands
+pub mod PatternParts
+pub mod StatementParts

@@ -1,0 +1,10 @@
+pub mod ArmCommas
+pub mod BlockForms
+pub mod DottedForms
+pub mod FieldTexts
+pub mod FieldValues
+pub mod FormFronts
+pub mod FormKinds
+pub mod Names
+pub mod Parts
+pub mod TypedClosures

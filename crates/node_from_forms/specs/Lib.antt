@@ -1,0 +1,4 @@
+pub mod BranchParts
+pub mod FieldForms
+pub mod Fronts
+pub mod StructParts

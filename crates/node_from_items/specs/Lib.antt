@@ -1,0 +1,12 @@
+pub mod Names
+pub mod Values
+pub mod Data
+pub mod Aliases
+pub mod Functions
+pub mod Imports
+pub mod Modules
+pub mod Macros
+pub mod Verbatim
+pub mod Members
+pub mod Numbers
+pub mod Dispatch

@@ -1,0 +1,3 @@
+pub mod InFront
+pub mod Indices
+pub mod PickedLists

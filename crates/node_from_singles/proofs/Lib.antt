@@ -1,0 +1,5 @@
+pub mod Alone
+pub mod MemberParts
+pub mod Made
+pub mod OthersMade
+pub mod TraitMade

@@ -1,0 +1,47 @@
+use Rattle.std.specs.Prelude.{refl}
+use Rattle.std.proofs.Common.{ap, arith}
+use Rattle.reader_tree.specs.Size.{node_count}
+use Rattle.syn_grammar.specs.Kept.{held, kept}
+use Rattle.syn_grammar.specs.Kind as k
+use Rattle.syn_grammar.specs.Table.{table}
+use Rattle.node_views.specs.Members.{impl_item_fn}
+use Rattle.node_from_items.proofs.Verdicts.{impl_function}
+use Rattle.node_from_singles.proofs.Made.{impl_item_made}
+use Rattle.node_from_singles.proofs.MemberParts.{default_shaped}
+use Rattle.node_from_singles.proofs.members.one_impl_fn.Goals as goal
+
+pub node-requires : goal.node-requires
+node-requires g c = c.requires.shaped
+
+pub member_parts-requires-clause-ready : goal.member_parts-requires-clause-ready
+member_parts-requires-clause-ready g c = c.requires.ready
+
+pub member_parts-requires-clause-shaped : goal.member_parts-requires-clause-shaped
+unfolding table
+member_parts-requires-clause-shaped g c = (k.AFunction k.InImpl, c.node.ensures.shaped)
+
+pub member_parts-requires-clause-fewer : goal.member_parts-requires-clause-fewer
+member_parts-requires-clause-fewer g c = omega (arith, ap node_count c.node.ensures.node, c.requires.fewer)
+
+pub defaultness-requires : goal.defaultness-requires
+defaultness-requires g c = default_shaped c.in_ok-front.word.now c.in_ok-front.ensures.default
+
+pub impl_item_fn-requires-clause-shaped : goal.impl_item_fn-requires-clause-shaped
+unfolding table
+impl_item_fn-requires-clause-shaped g c = c.in_ok-front.ensures.shaped (k.AFunction k.InImpl) c.node.ensures.shaped
+
+pub impl_item_fn-requires-clause-given : goal.impl_item_fn-requires-clause-given
+unfolding table
+impl_item_fn-requires-clause-given g c =
+    impl_function _ c.in_ok-front.form.now (c.in_ok-front.ensures.shaped (k.AFunction k.InImpl) c.node.ensures.shaped)
+    c.in_ok-front.ensures.verdict
+
+pub returns : goal.returns
+unfolding held table
+returns g c =
+    let f = c.in_ok-front.form.now in
+    let s = c.in_ok-front.ensures.shaped (k.AFunction k.InImpl) c.node.ensures.shaped in
+    impl_item_made c.impl_item_fn.result (impl_item_fn g.R.Reader.view) (k.OneFunction k.InImpl)
+    (k.AFunction k.InImpl) _ _ _ c.in_ok-front.word.now _ f c.node.result.now c.args.tree.now
+    c.impl_item_fn.ensures refl s c.defaultness.ensures.default c.in_ok-front.ensures.kept
+    (ap kept c.node.ensures.node)

@@ -1,0 +1,3 @@
+pub mod GivenForms
+pub mod LetParts
+pub mod Named

@@ -1,0 +1,48 @@
+//! What is read from a stream of the types over one that closes their recursion: of each type the kind that is read,
+//! and what makes a value of its tree.
+//!
+//! - `closed`: what a type that closes the recursion is made of; `below`, `by`: what makes the nodes in a node, and the
+//!   node that a tree is by that.
+//! - `grown`: what is asked of the type that closes the recursion, and what makes the nodes in a tree by that.
+//! - `paths`, `types`, `generics`, `expressions`, `items`, `members` (private): of each type its kind and its maker.
+#![tactic(auto)]
+
+ghost use Rattle.syn_grammar.specs.Kind.{Kind};
+
+pub mod below;
+pub mod by;
+pub mod closed;
+mod expressions;
+mod generics;
+pub mod grown;
+mod items;
+mod members;
+mod paths;
+mod types;
+
+pub use closed::Closed;
+pub use grown::{Grown, Inside};
+
+use node_read::Makes;
+use node_traits::Reads;
+use std::marker::PhantomData;
+use syn_error::ParseFault;
+use syn_input::ParseBuffer;
+
+/// What reads the types over `E`.
+pub struct TreeReader<E> {
+    nodes: PhantomData<E>,
+}
+
+impl<E: Grown, T: Drop> Reads<T> for TreeReader<E>
+where
+    TreeReader<E>: Makes<T>,
+{
+    ghost kind = { ⟦<TreeReader<E> as Makes<T>>⟧.kind };
+
+    ghost view = { ⟦<TreeReader<E> as Makes<T>>⟧.view };
+
+    fn read(input: &mut ParseBuffer<'_>) -> Result<T, ParseFault> {
+        node_read::read::<T, TreeReader<E>>(input)
+    }
+}

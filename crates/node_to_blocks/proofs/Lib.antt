@@ -1,0 +1,4 @@
+pub mod Closures
+pub mod Forms
+pub mod Patterns
+pub mod Statements

@@ -1,0 +1,6 @@
+use Rattle.node_to_blocks.proofs.branch.expr_if.Goals as goal
+
+pub returns : goal.returns
+returns g c =
+    rw c.deref.ensures.value at (c.attributed.ensures _ (c.alone.ensures _ (c.four-own.ensures _ _ _ _
+    c.to_tree-2.ensures (c.condition-condition.ensures _ c.to_tree.ensures) c.block.ensures c.else_branch.ensures)))

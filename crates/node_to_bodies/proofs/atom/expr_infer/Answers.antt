@@ -1,0 +1,4 @@
+use Rattle.node_to_bodies.proofs.atom.expr_infer.Goals as goal
+
+pub returns : goal.returns
+returns g c = rw c.deref.ensures.value at (c.attributed.ensures _ (c.alone.ensures _ c.to_tree-word.ensures))

@@ -1,0 +1,7 @@
+use Rattle.node_to_items.proofs.fields.named_field.Goals as goal
+
+pub returns : goal.returns
+returns g c =
+    rw c.deref.ensures.value at (c.node.ensures _ (c.four-parts.ensures _ _ _ _ c.all_attributes.ensures
+    c.visibility.ensures c.name_or.ensures (c.three-behind.ensures _ _ _ c.sign_or.ensures c.type_.ensures
+    c.optional_value.ensures)))

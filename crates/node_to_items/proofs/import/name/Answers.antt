@@ -1,0 +1,4 @@
+use Rattle.node_to_items.proofs.import.name.Goals as goal
+
+pub returns : goal.returns
+returns c = c.branch-arena.ensures _ (c.second.ensures _ c.name_alone.ensures)

@@ -1,0 +1,4 @@
+use Rattle.node_to_items.proofs.item.verbatim.Goals as goal
+
+pub returns : goal.returns
+returns c = c.node.ensures _ c.raw.ensures

@@ -1,0 +1,4 @@
+use Rattle.node_to_items.proofs.module.behind_as.Goals as goal
+
+pub returns : goal.returns
+returns c = c.pair.ensures _ _ c.to_tree.ensures c.name_or-name.ensures

@@ -1,0 +1,6 @@
+use Rattle.node_to_members.proofs.trait_item.trait_item_macro.Goals as goal
+
+pub returns : goal.returns
+returns g c =
+    rw c.deref.ensures.value at (c.trait_item_of.ensures _ (c.alternative.ensures _ (c.macro_form-form.ensures _
+    c.nil.ensures)))

@@ -1,0 +1,7 @@
+use Rattle.node_to_patterns.proofs.fields.pat_struct.Goals as goal
+
+pub returns : goal.returns
+returns g c =
+    rw c.deref.ensures.value at (c.behind_attributes.ensures _ (c.path_pattern.ensures _ _ c.any_path-path.ensures
+    (c.alternative-behind.ensures _ (c.node-fields.ensures _ (c.first.ensures _ (c.enclosed-group.ensures _
+    c.field_list.ensures))))))

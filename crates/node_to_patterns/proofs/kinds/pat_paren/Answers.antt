@@ -1,0 +1,6 @@
+use Rattle.node_to_patterns.proofs.kinds.pat_paren.Goals as goal
+
+pub returns : goal.returns
+returns g c =
+    rw c.deref.ensures.value at (c.behind_attributes.ensures _ (c.in_parentheses.ensures _ (c.enclosed-group.ensures
+    _ (c.lone-inside.ensures _ c.several_of.ensures))))

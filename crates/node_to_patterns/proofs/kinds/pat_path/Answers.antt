@@ -1,0 +1,6 @@
+use Rattle.node_to_patterns.proofs.kinds.pat_path.Goals as goal
+
+pub returns : goal.returns
+returns g c =
+    rw c.deref.ensures.value at (c.behind_attributes.ensures _ (c.path_pattern.ensures _ _ c.any_path-path.ensures
+    (c.last-behind.ensures _ c.absent.ensures)))

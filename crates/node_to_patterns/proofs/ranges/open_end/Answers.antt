@@ -1,0 +1,4 @@
+use Rattle.node_to_patterns.proofs.ranges.open_end.Goals as goal
+
+pub returns : goal.returns
+returns g c = c.node.ensures _ (c.second.ensures _ (c.pair-both.ensures _ _ c.sign-mark.ensures c.optional.ensures))

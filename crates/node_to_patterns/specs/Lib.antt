@@ -1,0 +1,3 @@
+pub mod CaseForms
+pub mod Forms
+pub mod Starts

@@ -1,0 +1,2 @@
+pub mod LoneWords
+pub mod Marks

@@ -1,0 +1,16 @@
+pub mod Words
+pub mod TypeMaps
+pub mod ExpressionMaps
+pub mod ItemMaps
+pub mod Paths
+pub mod Types
+pub mod Generics
+pub mod Patterns
+pub mod Statements
+pub mod Expressions
+pub mod Data
+pub mod Functions
+pub mod Items
+pub mod Members
+pub mod Imports
+pub mod Equations

@@ -1,0 +1,4 @@
+pub mod Boxed
+pub mod DerivedItems
+pub mod Views
+pub mod Wholes
