@@ -2,8 +2,10 @@
 
 ghost use Rattle.node_views.specs.Expressions as expressions;
 ghost use Rattle.node_views.specs.Statements as statements;
+ghost use Rattle.node_words.specs.Words as words;
 
 use crate::{TreePrinter, Trees};
+use node_to::step::expression;
 use node_to::to_tree::ToTree;
 use node_expressions::atom::{
     ExprMacro, ExprParen, ExprPath, ExprRepeat, ExprStruct, ExprTuple, FieldValue,
@@ -27,154 +29,154 @@ use reader_tree::tree::Tree;
 use std::alloc::AllocError;
 
 impl<E: ToTree> Trees<ExprLoop<E>> for TreePrinter<E> {
-    ghost view = { expressions.expr_loop E.tree };
+    ghost view = { λ x. words.expression (expressions.expr_loop E.tree x) };
 
     fn tree<'a>(value: &'a ExprLoop<E>, arena: &'a Arena) -> Result<Tree<'a>, AllocError> {
-        expr_loop(arena, value)
+        expression(arena, expr_loop(arena, value))
     }
 }
 
 impl<E: ToTree> Trees<ExprMacro<E>> for TreePrinter<E> {
-    ghost view = { expressions.expr_macro E.tree };
+    ghost view = { λ x. words.expression (expressions.expr_macro E.tree x) };
 
     fn tree<'a>(value: &'a ExprMacro<E>, arena: &'a Arena) -> Result<Tree<'a>, AllocError> {
-        expr_macro(arena, value)
+        expression(arena, expr_macro(arena, value))
     }
 }
 
 impl<E: ToTree> Trees<ExprMatch<E>> for TreePrinter<E> {
-    ghost view = { expressions.expr_match E.tree };
+    ghost view = { λ x. words.expression (expressions.expr_match E.tree x) };
 
     fn tree<'a>(value: &'a ExprMatch<E>, arena: &'a Arena) -> Result<Tree<'a>, AllocError> {
-        expr_match(arena, value)
+        expression(arena, expr_match(arena, value))
     }
 }
 
 impl<E: ToTree> Trees<ExprMethodCall<E>> for TreePrinter<E> {
-    ghost view = { expressions.expr_method_call E.tree };
+    ghost view = { λ x. words.expression (expressions.expr_method_call E.tree x) };
 
     fn tree<'a>(value: &'a ExprMethodCall<E>, arena: &'a Arena) -> Result<Tree<'a>, AllocError> {
-        expr_method_call(arena, value)
+        expression(arena, expr_method_call(arena, value))
     }
 }
 
 impl<E: ToTree> Trees<ExprParen<E>> for TreePrinter<E> {
-    ghost view = { expressions.expr_paren E.tree };
+    ghost view = { λ x. words.expression (expressions.expr_paren E.tree x) };
 
     fn tree<'a>(value: &'a ExprParen<E>, arena: &'a Arena) -> Result<Tree<'a>, AllocError> {
-        expr_paren(arena, value)
+        expression(arena, expr_paren(arena, value))
     }
 }
 
 impl<E: ToTree> Trees<ExprPath<E>> for TreePrinter<E> {
-    ghost view = { expressions.expr_path E.tree };
+    ghost view = { λ x. words.expression (expressions.expr_path E.tree x) };
 
     fn tree<'a>(value: &'a ExprPath<E>, arena: &'a Arena) -> Result<Tree<'a>, AllocError> {
-        expr_path(arena, value)
+        expression(arena, expr_path(arena, value))
     }
 }
 
 impl<E: ToTree> Trees<ExprRange<E>> for TreePrinter<E> {
-    ghost view = { expressions.expr_range E.tree };
+    ghost view = { λ x. words.expression (expressions.expr_range E.tree x) };
 
     fn tree<'a>(value: &'a ExprRange<E>, arena: &'a Arena) -> Result<Tree<'a>, AllocError> {
-        expr_range(arena, value)
+        expression(arena, expr_range(arena, value))
     }
 }
 
 impl<E: ToTree> Trees<ExprRawAddr<E>> for TreePrinter<E> {
-    ghost view = { expressions.expr_raw_addr E.tree };
+    ghost view = { λ x. words.expression (expressions.expr_raw_addr E.tree x) };
 
     fn tree<'a>(value: &'a ExprRawAddr<E>, arena: &'a Arena) -> Result<Tree<'a>, AllocError> {
-        expr_raw_addr(arena, value)
+        expression(arena, expr_raw_addr(arena, value))
     }
 }
 
 impl<E: ToTree> Trees<ExprReference<E>> for TreePrinter<E> {
-    ghost view = { expressions.expr_reference E.tree };
+    ghost view = { λ x. words.expression (expressions.expr_reference E.tree x) };
 
     fn tree<'a>(value: &'a ExprReference<E>, arena: &'a Arena) -> Result<Tree<'a>, AllocError> {
-        expr_reference(arena, value)
+        expression(arena, expr_reference(arena, value))
     }
 }
 
 impl<E: ToTree> Trees<ExprRepeat<E>> for TreePrinter<E> {
-    ghost view = { expressions.expr_repeat E.tree };
+    ghost view = { λ x. words.expression (expressions.expr_repeat E.tree x) };
 
     fn tree<'a>(value: &'a ExprRepeat<E>, arena: &'a Arena) -> Result<Tree<'a>, AllocError> {
-        expr_repeat(arena, value)
+        expression(arena, expr_repeat(arena, value))
     }
 }
 
 impl<E: ToTree> Trees<ExprReturn<E>> for TreePrinter<E> {
-    ghost view = { expressions.expr_return E.tree };
+    ghost view = { λ x. words.expression (expressions.expr_return E.tree x) };
 
     fn tree<'a>(value: &'a ExprReturn<E>, arena: &'a Arena) -> Result<Tree<'a>, AllocError> {
-        expr_return(arena, value)
+        expression(arena, expr_return(arena, value))
     }
 }
 
 impl<E: ToTree> Trees<ExprStruct<E>> for TreePrinter<E> {
-    ghost view = { expressions.expr_struct E.tree };
+    ghost view = { λ x. words.expression (expressions.expr_struct E.tree x) };
 
     fn tree<'a>(value: &'a ExprStruct<E>, arena: &'a Arena) -> Result<Tree<'a>, AllocError> {
-        expr_struct(arena, value)
+        expression(arena, expr_struct(arena, value))
     }
 }
 
 impl<E: ToTree> Trees<ExprTry<E>> for TreePrinter<E> {
-    ghost view = { expressions.expr_try E.tree };
+    ghost view = { λ x. words.expression (expressions.expr_try E.tree x) };
 
     fn tree<'a>(value: &'a ExprTry<E>, arena: &'a Arena) -> Result<Tree<'a>, AllocError> {
-        expr_try(arena, value)
+        expression(arena, expr_try(arena, value))
     }
 }
 
 impl<E: ToTree> Trees<ExprTryBlock<E>> for TreePrinter<E> {
-    ghost view = { expressions.expr_try_block E.tree };
+    ghost view = { λ x. words.expression (expressions.expr_try_block E.tree x) };
 
     fn tree<'a>(value: &'a ExprTryBlock<E>, arena: &'a Arena) -> Result<Tree<'a>, AllocError> {
-        expr_try_block(arena, value)
+        expression(arena, expr_try_block(arena, value))
     }
 }
 
 impl<E: ToTree> Trees<ExprTuple<E>> for TreePrinter<E> {
-    ghost view = { expressions.expr_tuple E.tree };
+    ghost view = { λ x. words.expression (expressions.expr_tuple E.tree x) };
 
     fn tree<'a>(value: &'a ExprTuple<E>, arena: &'a Arena) -> Result<Tree<'a>, AllocError> {
-        expr_tuple(arena, value)
+        expression(arena, expr_tuple(arena, value))
     }
 }
 
 impl<E: ToTree> Trees<ExprUnary<E>> for TreePrinter<E> {
-    ghost view = { expressions.expr_unary E.tree };
+    ghost view = { λ x. words.expression (expressions.expr_unary E.tree x) };
 
     fn tree<'a>(value: &'a ExprUnary<E>, arena: &'a Arena) -> Result<Tree<'a>, AllocError> {
-        expr_unary(arena, value)
+        expression(arena, expr_unary(arena, value))
     }
 }
 
 impl<E: ToTree> Trees<ExprUnsafe<E>> for TreePrinter<E> {
-    ghost view = { expressions.expr_unsafe E.tree };
+    ghost view = { λ x. words.expression (expressions.expr_unsafe E.tree x) };
 
     fn tree<'a>(value: &'a ExprUnsafe<E>, arena: &'a Arena) -> Result<Tree<'a>, AllocError> {
-        expr_unsafe(arena, value)
+        expression(arena, expr_unsafe(arena, value))
     }
 }
 
 impl<E: ToTree> Trees<ExprWhile<E>> for TreePrinter<E> {
-    ghost view = { expressions.expr_while E.tree };
+    ghost view = { λ x. words.expression (expressions.expr_while E.tree x) };
 
     fn tree<'a>(value: &'a ExprWhile<E>, arena: &'a Arena) -> Result<Tree<'a>, AllocError> {
-        expr_while(arena, value)
+        expression(arena, expr_while(arena, value))
     }
 }
 
 impl<E: ToTree> Trees<ExprYield<E>> for TreePrinter<E> {
-    ghost view = { expressions.expr_yield E.tree };
+    ghost view = { λ x. words.expression (expressions.expr_yield E.tree x) };
 
     fn tree<'a>(value: &'a ExprYield<E>, arena: &'a Arena) -> Result<Tree<'a>, AllocError> {
-        expr_yield(arena, value)
+        expression(arena, expr_yield(arena, value))
     }
 }
 

@@ -3,17 +3,29 @@
 //!
 //! - `round`: a text, read as a value of a type and printed again.
 //! - `patterns`: patterns, which have several kinds.
+//! - `forms`: values of enums, printed as the structs that they are.
+//! - `placed`: files, printed with the columns in which their tokens stand.
+//! - `built`: expressions that are built by hand, of operands without their parentheses.
 #![tactic(auto)]
 
+mod built;
+mod forms;
 mod patterns;
+mod placed;
 mod round;
 
+use crate::built::put_built;
+use crate::forms::{
+    put_expr, put_fn_arg, put_foreign_item, put_generic_argument, put_generic_param, put_impl_item, put_item,
+    put_meta, put_pat, put_stmt, put_trait_item, put_type, put_type_param_bound, put_where_predicate,
+};
 use crate::patterns::{OnePat, SeveralPats, WholePat};
-use crate::round::{put_made, put_value};
+use crate::placed::put_placed;
+use crate::round::{put_made, put_value, put_with};
 use node_expressions::{Arm, Block, Expr, FieldValue, Stmt};
-use node_generics::{GenericParam, Generics, Visibility, WhereClause};
+use node_generics::{GenericParam, Generics, Visibility, WhereClause, WherePredicate};
 use node_items::{FnArg, ForeignItem, ForeignItemFn, ForeignItemMacro, ForeignItemStatic, ForeignItemType, ImplItem, ImplItemConst, ImplItemFn, ImplItemMacro, ImplItemType, ItemConst, ItemEnum, ItemExternCrate, ItemFn, ItemForeignMod, ItemImpl, ItemMacro, ItemMod, ItemStatic, ItemStruct, ItemTrait, ItemTraitAlias, ItemType, ItemUnion, ItemUse, Receiver, Signature, TraitItem, TraitItemConst, TraitItemFn, TraitItemMacro, TraitItemType, Variant};
-use node_paths::{Macro, Meta, Path, PathSegment, TypeParamBound};
+use node_paths::{GenericArgument, Macro, Meta, Path, PathSegment, TypeParamBound};
 use node_types::{Type};
 use node_patterns::Pat;
 use node_prints::TreePrinter;
@@ -94,9 +106,31 @@ fn put_second(call: &str, text: &str, page: &mut Page) -> Result<(), Unanswered>
 
 fn put_third(call: &str, text: &str, page: &mut Page) -> Result<(), Unanswered> {
     match call {
+        "Normal" => put_placed(text, page),
         "Pat" => put_made::<Pat<Node>, WholePat, TreePrinter<Node>>(text, page),
         "Pat-several" => put_made::<Pat<Node>, SeveralPats, TreePrinter<Node>>(text, page),
         "Pat-single" => put_made::<Pat<Node>, OnePat, TreePrinter<Node>>(text, page),
+        _ => put_fourth(call, text, page),
+    }
+}
+
+fn put_fourth(call: &str, text: &str, page: &mut Page) -> Result<(), Unanswered> {
+    match call {
+        "Expr-form" => put_with::<Expr<Node>, TreeReader<Node>, _>(text, page, put_expr),
+        "Type-form" => put_with::<Type<Node>, TreeReader<Node>, _>(text, page, put_type),
+        "Pat-form" => put_with::<Pat<Node>, WholePat, _>(text, page, put_pat),
+        "Item-form" => put_with::<Item, TreeReader<Node>, _>(text, page, put_item),
+        "ForeignItem-form" => put_with::<ForeignItem<Node>, TreeReader<Node>, _>(text, page, put_foreign_item),
+        "TraitItem-form" => put_with::<TraitItem<Node>, TreeReader<Node>, _>(text, page, put_trait_item),
+        "ImplItem-form" => put_with::<ImplItem<Node>, TreeReader<Node>, _>(text, page, put_impl_item),
+        "GenericParam-form" => put_with::<GenericParam<Node>, TreeReader<Node>, _>(text, page, put_generic_param),
+        "WherePredicate-form" => put_with::<WherePredicate<Node>, TreeReader<Node>, _>(text, page, put_where_predicate),
+        "TypeParamBound-form" => put_with::<TypeParamBound<Node>, TreeReader<Node>, _>(text, page, put_type_param_bound),
+        "Meta-form" => put_with::<Meta<Node>, TreeReader<Node>, _>(text, page, put_meta),
+        "GenericArgument-form" => put_with::<GenericArgument<Node>, TreeReader<Node>, _>(text, page, put_generic_argument),
+        "Stmt-form" => put_with::<Stmt<Node>, TreeReader<Node>, _>(text, page, put_stmt),
+        "FnArg-form" => put_with::<FnArg<Node>, TreeReader<Node>, _>(text, page, put_fn_arg),
+        "built" => put_built(text, page),
         _ => Err(Unanswered::NoRow),
     }
 }

@@ -17,8 +17,8 @@ fn put_stream(stream: &TokenStream, page: &mut Page) -> Result<(), Unanswered> {
     Ok(())
 }
 
-// Puts the print of a value.
-fn put_print<T: Drop, P: Prints<T>>(value: &T, page: &mut Page) -> Result<(), Unanswered> {
+/// Puts the print of a value.
+pub(crate) fn put_print<T: Drop, P: Prints<T>>(value: &T, page: &mut Page) -> Result<(), Unanswered> {
     let mut tokens = TokenStream::new(page.alloc());
     P::print(value, &mut tokens)?;
     put_stream(&tokens, page)
@@ -55,8 +55,8 @@ fn put_front<T: Drop, P: Prints<T>>(
     }
 }
 
-// The tokens of a text, if it is one of tokens.
-fn lexed(alloc: Global, text: &str) -> Option<TokenStream> {
+/// The tokens of a text, if it is one of tokens.
+pub(crate) fn lexed(alloc: Global, text: &str) -> Option<TokenStream> {
     match TokenStream::from_str(alloc, text, &mut SourceMap::new(alloc)) {
         Ok(stream) => Some(stream),
         Err(_) => None,
@@ -91,4 +91,29 @@ pub(crate) fn put_made<T: Drop, M: Makes<T>, P: Prints<T>>(
     let mut input = ParseBuffer::new(page.alloc(), buffer.begin());
     let found = read::<T, M>(&mut input);
     put_front::<T, P>(found, &mut input, page)
+}
+
+/// Puts what is said by a function of the value with which a text begins.
+pub(crate) fn put_with<T: Drop, M: Makes<T>, F: Fn(&T, &mut Page) -> Result<(), Unanswered>>(
+    text: &str,
+    page: &mut Page,
+    put: F,
+) -> Result<(), Unanswered> {
+    let Some(stream) = lexed(page.alloc(), text) else {
+        page.put("refused");
+        return Ok(());
+    };
+    let buffer = TokenBuffer::new2(page.alloc(), &stream, 1)?;
+    let mut input = ParseBuffer::new(page.alloc(), buffer.begin());
+    match read::<T, M>(&mut input) {
+        Ok(value) => {
+            put(&value, page)?;
+            put_left(&mut input, page)
+        }
+        Err(ParseFault::Syntax(_)) => {
+            page.put("refused");
+            Ok(())
+        }
+        Err(ParseFault::Memory) => Err(Unanswered::Cut),
+    }
 }
