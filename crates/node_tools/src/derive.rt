@@ -2,7 +2,7 @@
 
 use anyhow::{Result, anyhow};
 use std::alloc::Global;
-use syn_nodes::{Item, ItemStruct, Member, SourceMap, ToTokens, TokenStream, parse2};
+use syn_nodes::{Generics, Item, ItemStruct, Member, SourceMap, ToTokens, parse_str};
 
 // The text of such an impl, without generics.
 fn text_of(alloc: Global, item: &ItemStruct) -> Result<String> {
@@ -22,13 +22,14 @@ fn text_of(alloc: Global, item: &ItemStruct) -> Result<String> {
 pub(crate) fn put(text: &str, out: &mut String) -> Result<()> {
     let alloc = *out.allocator();
     let mut map = SourceMap::new(alloc);
-    let Item::Struct(item) = parse2::<Item>(alloc, TokenStream::from_str(alloc, text, &mut map)?)? else {
+    let mut input = parse_str::<Item>(alloc, text, &mut map)?;
+    let Item::Struct(item) = &mut input else {
         return Err(anyhow!("no struct"));
     };
-    let text = text_of(alloc, &item)?;
-    let Item::Impl(mut made) = parse2::<Item>(alloc, TokenStream::from_str(alloc, text.as_str(), &mut map)?)? else {
-        return Err(anyhow!("no impl"));
-    };
-    made.generics = item.generics;
-    Ok(writeln!(out, "{}", Item::Impl(made).to_token_stream(alloc)?)?)
+    let text = text_of(alloc, item)?;
+    let mut made = parse_str::<Item>(alloc, text.as_str(), &mut map)?;
+    if let Item::Impl(made) = &mut made {
+        made.generics = std::mem::replace(&mut item.generics, Generics::new(alloc));
+    }
+    Ok(writeln!(out, "{}", made.to_token_stream(alloc)?)?)
 }

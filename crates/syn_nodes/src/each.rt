@@ -5,11 +5,12 @@ use node_visit::{Visit, expressions, items, paths, patterns, types};
 use std::alloc::AllocError;
 
 // What is done with a node, and before that with those below it.
-struct Inner<F> {
-    call: F,
+#[derive(Drop)]
+struct Inner<'f, F> {
+    call: &'f mut F,
 }
 
-impl<F: FnMut(&mut Node) -> Result<(), AllocError>> Visit<Node> for Inner<F> {
+impl<F: FnMut(&mut Node) -> Result<(), AllocError>> Visit<Node> for Inner<'_, F> {
     #[cycle(visit)]
     fn visit(&mut self, node: &mut Node) -> Result<(), AllocError> {
         in_node(node, self)?;
@@ -19,7 +20,7 @@ impl<F: FnMut(&mut Node) -> Result<(), AllocError>> Visit<Node> for Inner<F> {
 
 // Visits the nodes in a node.
 #[cycle(visit)]
-fn in_node<F: FnMut(&mut Node) -> Result<(), AllocError>>(node: &mut Node, v: &mut Inner<F>) -> Result<(), AllocError> {
+fn in_node<F: FnMut(&mut Node) -> Result<(), AllocError>>(node: &mut Node, v: &mut Inner<'_, F>) -> Result<(), AllocError> {
     match node {
         Node::Expr(form) => expressions::in_expr(&mut **form, v),
         Node::Item(item) => in_item(&mut **item, v),
@@ -31,7 +32,7 @@ fn in_node<F: FnMut(&mut Node) -> Result<(), AllocError>>(node: &mut Node, v: &m
 
 // Visits the nodes in an item.
 #[cycle(visit)]
-fn in_item<F: FnMut(&mut Node) -> Result<(), AllocError>>(item: &mut Item, v: &mut Inner<F>) -> Result<(), AllocError> {
+fn in_item<F: FnMut(&mut Node) -> Result<(), AllocError>>(item: &mut Item, v: &mut Inner<'_, F>) -> Result<(), AllocError> {
     match item {
         Item::Const(item) => items::in_item_const(item, v),
         Item::Enum(item) => items::in_item_enum(item, v),
@@ -57,8 +58,8 @@ fn in_item<F: FnMut(&mut Node) -> Result<(), AllocError>>(item: &mut Item, v: &m
 /// # Errors
 ///
 /// That of the first call with one.
-pub fn in_block<F: FnMut(&mut Node) -> Result<(), AllocError>>(block: &mut Block, call: F) -> Result<(), AllocError> {
-    expressions::in_block(block, &mut Inner { call })
+pub fn in_block<F: FnMut(&mut Node) -> Result<(), AllocError> + Drop>(block: &mut Block, mut call: F) -> Result<(), AllocError> {
+    expressions::in_block(block, &mut Inner { call: &mut call })
 }
 
 /// Calls the function with each node below an item, the inner ones first.
@@ -66,8 +67,8 @@ pub fn in_block<F: FnMut(&mut Node) -> Result<(), AllocError>>(block: &mut Block
 /// # Errors
 ///
 /// That of the first call with one.
-pub fn below_item<F: FnMut(&mut Node) -> Result<(), AllocError>>(item: &mut Item, call: F) -> Result<(), AllocError> {
-    in_item(item, &mut Inner { call })
+pub fn below_item<F: FnMut(&mut Node) -> Result<(), AllocError> + Drop>(item: &mut Item, mut call: F) -> Result<(), AllocError> {
+    in_item(item, &mut Inner { call: &mut call })
 }
 
 /// Calls the function with each node below a file, the inner ones first.
@@ -75,8 +76,8 @@ pub fn below_item<F: FnMut(&mut Node) -> Result<(), AllocError>>(item: &mut Item
 /// # Errors
 ///
 /// That of the first call with one.
-pub fn in_file<F: FnMut(&mut Node) -> Result<(), AllocError>>(file: &mut File, call: F) -> Result<(), AllocError> {
-    let mut v = Inner { call };
+pub fn in_file<F: FnMut(&mut Node) -> Result<(), AllocError> + Drop>(file: &mut File, mut call: F) -> Result<(), AllocError> {
+    let mut v = Inner { call: &mut call };
     for attribute in file.attrs.iter_mut() {
         paths::in_attribute(attribute, &mut v)?;
     }
