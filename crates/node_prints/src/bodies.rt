@@ -5,8 +5,6 @@ ghost use Rattle.node_views.specs.Statements as statements;
 ghost use Rattle.node_words.specs.Words as words;
 
 use crate::{TreePrinter, Trees};
-use node_to::step::expression;
-use node_to::to_tree::ToTree;
 use node_expressions::atom::{
     ExprMacro, ExprParen, ExprPath, ExprRepeat, ExprStruct, ExprTuple, FieldValue,
 };
@@ -16,6 +14,8 @@ use node_expressions::call::{ExprMethodCall, ExprTry};
 use node_expressions::jump::{ExprReturn, ExprYield};
 use node_expressions::operator::{ExprRange, ExprRawAddr, ExprReference, ExprUnary};
 use node_expressions::statement::{Local, Stmt, StmtMacro};
+use node_to::step::expression;
+use node_to::to_tree::ToTree;
 use node_to_blocks::block::{expr_loop, expr_try_block, expr_unsafe, expr_while};
 use node_to_blocks::branch::expr_match;
 use node_to_blocks::statement::{local, stmt, stmt_macro};

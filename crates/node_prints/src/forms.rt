@@ -5,8 +5,6 @@ ghost use Rattle.node_views.specs.Statements as statements;
 ghost use Rattle.node_words.specs.Words as words;
 
 use crate::{TreePrinter, Trees};
-use node_to::step::expression;
-use node_to::to_tree::ToTree;
 use node_expressions::atom::{ExprArray, ExprGroup, ExprInfer, ExprLit};
 use node_expressions::block::{Block, ExprAsync, ExprBlock, ExprConst, ExprForLoop};
 use node_expressions::branch::{Arm, ExprIf, ExprLet};
@@ -15,6 +13,8 @@ use node_expressions::closure::ExprClosure;
 use node_expressions::expr::Expr;
 use node_expressions::jump::{ExprBreak, ExprContinue};
 use node_expressions::operator::{ExprAssign, ExprBinary, ExprCast};
+use node_to::step::expression;
+use node_to::to_tree::ToTree;
 use node_to_blocks::block::{block, expr_async, expr_block, expr_const, expr_for_loop};
 use node_to_blocks::branch::{arm, expr_if, expr_let};
 use node_to_blocks::closure::expr_closure;

@@ -18,7 +18,10 @@ fn put_stream(stream: &TokenStream, page: &mut Page) -> Result<(), Unanswered> {
 }
 
 /// Puts the print of a value.
-pub(crate) fn put_print<T: Drop, P: Prints<T>>(value: &T, page: &mut Page) -> Result<(), Unanswered> {
+pub(crate) fn put_print<T: Drop, P: Prints<T>>(
+    value: &T,
+    page: &mut Page,
+) -> Result<(), Unanswered> {
     let mut tokens = TokenStream::new(page.alloc());
     P::print(value, &mut tokens)?;
     put_stream(&tokens, page)

@@ -1,13 +1,20 @@
 //! The nodes that stand in types of `node_items`.
 
-use crate::expressions::{in_block};
+use crate::Visit;
+use crate::expressions::in_block;
 use crate::generics::{in_generics, in_visibility};
 use crate::paths::{in_attribute, in_macro, in_path, in_return_type, in_type_param_bound};
-use crate::patterns::{in_pat_type};
-use crate::types::{in_type};
-use crate::Visit;
+use crate::patterns::in_pat_type;
+use crate::types::in_type;
+use node_items::{
+    Data, DataEnum, DataStruct, DataUnion, DeriveInput, Field, Fields, FieldsNamed, FieldsUnnamed,
+    FnArg, ForeignItem, ForeignItemFn, ForeignItemMacro, ForeignItemStatic, ForeignItemType,
+    ImplItem, ImplItemConst, ImplItemFn, ImplItemMacro, ImplItemType, ItemConst, ItemEnum,
+    ItemExternCrate, ItemFn, ItemForeignMod, ItemImpl, ItemMacro, ItemMod, ItemStatic, ItemStruct,
+    ItemTrait, ItemTraitAlias, ItemType, ItemUnion, ItemUse, Receiver, ReceiverKind, Signature,
+    TraitItem, TraitItemConst, TraitItemFn, TraitItemMacro, TraitItemType, Variadic, Variant,
+};
 use std::alloc::AllocError;
-use node_items::{Data, DataEnum, DataStruct, DataUnion, DeriveInput, Field, Fields, FieldsNamed, FieldsUnnamed, FnArg, ForeignItem, ForeignItemFn, ForeignItemMacro, ForeignItemStatic, ForeignItemType, ImplItem, ImplItemConst, ImplItemFn, ImplItemMacro, ImplItemType, ItemConst, ItemEnum, ItemExternCrate, ItemFn, ItemForeignMod, ItemImpl, ItemMacro, ItemMod, ItemStatic, ItemStruct, ItemTrait, ItemTraitAlias, ItemType, ItemUnion, ItemUse, Receiver, ReceiverKind, Signature, TraitItem, TraitItemConst, TraitItemFn, TraitItemMacro, TraitItemType, Variadic, Variant};
 
 /// Visits each node that stands in it, outside the nodes in those.
 ///
@@ -41,7 +48,10 @@ pub fn in_fields<E, V: Visit<E>>(node: &mut Fields<E>, v: &mut V) -> Result<(), 
 /// # Errors
 ///
 /// That of a visit.
-pub fn in_fields_named<E, V: Visit<E>>(node: &mut FieldsNamed<E>, v: &mut V) -> Result<(), AllocError> {
+pub fn in_fields_named<E, V: Visit<E>>(
+    node: &mut FieldsNamed<E>,
+    v: &mut V,
+) -> Result<(), AllocError> {
     for each in node.named.iter_mut() {
         in_field(each, v)?;
     }
@@ -53,7 +63,10 @@ pub fn in_fields_named<E, V: Visit<E>>(node: &mut FieldsNamed<E>, v: &mut V) -> 
 /// # Errors
 ///
 /// That of a visit.
-pub fn in_fields_unnamed<E, V: Visit<E>>(node: &mut FieldsUnnamed<E>, v: &mut V) -> Result<(), AllocError> {
+pub fn in_fields_unnamed<E, V: Visit<E>>(
+    node: &mut FieldsUnnamed<E>,
+    v: &mut V,
+) -> Result<(), AllocError> {
     for each in node.unnamed.iter_mut() {
         in_field(each, v)?;
     }
@@ -98,7 +111,10 @@ pub fn in_variant<E, V: Visit<E>>(node: &mut Variant<E>, v: &mut V) -> Result<()
 /// # Errors
 ///
 /// That of a visit.
-pub fn in_item_struct<E, V: Visit<E>>(node: &mut ItemStruct<E>, v: &mut V) -> Result<(), AllocError> {
+pub fn in_item_struct<E, V: Visit<E>>(
+    node: &mut ItemStruct<E>,
+    v: &mut V,
+) -> Result<(), AllocError> {
     for each in node.attrs.iter_mut() {
         in_attribute(each, v)?;
     }
@@ -143,7 +159,10 @@ pub fn in_item_union<E, V: Visit<E>>(node: &mut ItemUnion<E>, v: &mut V) -> Resu
 /// # Errors
 ///
 /// That of a visit.
-pub fn in_derive_input<E, V: Visit<E>>(node: &mut DeriveInput<E>, v: &mut V) -> Result<(), AllocError> {
+pub fn in_derive_input<E, V: Visit<E>>(
+    node: &mut DeriveInput<E>,
+    v: &mut V,
+) -> Result<(), AllocError> {
     for each in node.attrs.iter_mut() {
         in_attribute(each, v)?;
     }
@@ -170,7 +189,10 @@ pub fn in_data<E, V: Visit<E>>(node: &mut Data<E>, v: &mut V) -> Result<(), Allo
 /// # Errors
 ///
 /// That of a visit.
-pub fn in_data_struct<E, V: Visit<E>>(node: &mut DataStruct<E>, v: &mut V) -> Result<(), AllocError> {
+pub fn in_data_struct<E, V: Visit<E>>(
+    node: &mut DataStruct<E>,
+    v: &mut V,
+) -> Result<(), AllocError> {
     in_fields(&mut node.fields, v)
 }
 
@@ -254,7 +276,10 @@ pub fn in_receiver<E, V: Visit<E>>(node: &mut Receiver<E>, v: &mut V) -> Result<
 /// # Errors
 ///
 /// That of a visit.
-pub fn in_receiver_kind<E, V: Visit<E>>(node: &mut ReceiverKind<E>, v: &mut V) -> Result<(), AllocError> {
+pub fn in_receiver_kind<E, V: Visit<E>>(
+    node: &mut ReceiverKind<E>,
+    v: &mut V,
+) -> Result<(), AllocError> {
     match node {
         ReceiverKind::Typed(_, b) => v.visit(b),
         _ => Ok(()),
@@ -316,7 +341,10 @@ pub fn in_impl_item<E, V: Visit<E>>(node: &mut ImplItem<E>, v: &mut V) -> Result
 /// # Errors
 ///
 /// That of a visit.
-pub fn in_impl_item_const<E, V: Visit<E>>(node: &mut ImplItemConst<E>, v: &mut V) -> Result<(), AllocError> {
+pub fn in_impl_item_const<E, V: Visit<E>>(
+    node: &mut ImplItemConst<E>,
+    v: &mut V,
+) -> Result<(), AllocError> {
     for each in node.attrs.iter_mut() {
         in_attribute(each, v)?;
     }
@@ -331,7 +359,10 @@ pub fn in_impl_item_const<E, V: Visit<E>>(node: &mut ImplItemConst<E>, v: &mut V
 /// # Errors
 ///
 /// That of a visit.
-pub fn in_impl_item_fn<E, V: Visit<E>>(node: &mut ImplItemFn<E>, v: &mut V) -> Result<(), AllocError> {
+pub fn in_impl_item_fn<E, V: Visit<E>>(
+    node: &mut ImplItemFn<E>,
+    v: &mut V,
+) -> Result<(), AllocError> {
     for each in node.attrs.iter_mut() {
         in_attribute(each, v)?;
     }
@@ -345,7 +376,10 @@ pub fn in_impl_item_fn<E, V: Visit<E>>(node: &mut ImplItemFn<E>, v: &mut V) -> R
 /// # Errors
 ///
 /// That of a visit.
-pub fn in_impl_item_type<E, V: Visit<E>>(node: &mut ImplItemType<E>, v: &mut V) -> Result<(), AllocError> {
+pub fn in_impl_item_type<E, V: Visit<E>>(
+    node: &mut ImplItemType<E>,
+    v: &mut V,
+) -> Result<(), AllocError> {
     for each in node.attrs.iter_mut() {
         in_attribute(each, v)?;
     }
@@ -359,7 +393,10 @@ pub fn in_impl_item_type<E, V: Visit<E>>(node: &mut ImplItemType<E>, v: &mut V) 
 /// # Errors
 ///
 /// That of a visit.
-pub fn in_impl_item_macro<E, V: Visit<E>>(node: &mut ImplItemMacro<E>, v: &mut V) -> Result<(), AllocError> {
+pub fn in_impl_item_macro<E, V: Visit<E>>(
+    node: &mut ImplItemMacro<E>,
+    v: &mut V,
+) -> Result<(), AllocError> {
     for each in node.attrs.iter_mut() {
         in_attribute(each, v)?;
     }
@@ -413,7 +450,10 @@ pub fn in_item_mod<E, V: Visit<E>>(node: &mut ItemMod<E>, v: &mut V) -> Result<(
 /// # Errors
 ///
 /// That of a visit.
-pub fn in_item_extern_crate<E, V: Visit<E>>(node: &mut ItemExternCrate<E>, v: &mut V) -> Result<(), AllocError> {
+pub fn in_item_extern_crate<E, V: Visit<E>>(
+    node: &mut ItemExternCrate<E>,
+    v: &mut V,
+) -> Result<(), AllocError> {
     for each in node.attrs.iter_mut() {
         in_attribute(each, v)?;
     }
@@ -425,7 +465,10 @@ pub fn in_item_extern_crate<E, V: Visit<E>>(node: &mut ItemExternCrate<E>, v: &m
 /// # Errors
 ///
 /// That of a visit.
-pub fn in_item_foreign_mod<E, V: Visit<E>>(node: &mut ItemForeignMod<E>, v: &mut V) -> Result<(), AllocError> {
+pub fn in_item_foreign_mod<E, V: Visit<E>>(
+    node: &mut ItemForeignMod<E>,
+    v: &mut V,
+) -> Result<(), AllocError> {
     for each in node.attrs.iter_mut() {
         in_attribute(each, v)?;
     }
@@ -440,7 +483,10 @@ pub fn in_item_foreign_mod<E, V: Visit<E>>(node: &mut ItemForeignMod<E>, v: &mut
 /// # Errors
 ///
 /// That of a visit.
-pub fn in_foreign_item<E, V: Visit<E>>(node: &mut ForeignItem<E>, v: &mut V) -> Result<(), AllocError> {
+pub fn in_foreign_item<E, V: Visit<E>>(
+    node: &mut ForeignItem<E>,
+    v: &mut V,
+) -> Result<(), AllocError> {
     match node {
         ForeignItem::Fn(a) => in_foreign_item_fn(a, v),
         ForeignItem::Static(a) => in_foreign_item_static(a, v),
@@ -455,7 +501,10 @@ pub fn in_foreign_item<E, V: Visit<E>>(node: &mut ForeignItem<E>, v: &mut V) -> 
 /// # Errors
 ///
 /// That of a visit.
-pub fn in_foreign_item_fn<E, V: Visit<E>>(node: &mut ForeignItemFn<E>, v: &mut V) -> Result<(), AllocError> {
+pub fn in_foreign_item_fn<E, V: Visit<E>>(
+    node: &mut ForeignItemFn<E>,
+    v: &mut V,
+) -> Result<(), AllocError> {
     for each in node.attrs.iter_mut() {
         in_attribute(each, v)?;
     }
@@ -468,7 +517,10 @@ pub fn in_foreign_item_fn<E, V: Visit<E>>(node: &mut ForeignItemFn<E>, v: &mut V
 /// # Errors
 ///
 /// That of a visit.
-pub fn in_foreign_item_static<E, V: Visit<E>>(node: &mut ForeignItemStatic<E>, v: &mut V) -> Result<(), AllocError> {
+pub fn in_foreign_item_static<E, V: Visit<E>>(
+    node: &mut ForeignItemStatic<E>,
+    v: &mut V,
+) -> Result<(), AllocError> {
     for each in node.attrs.iter_mut() {
         in_attribute(each, v)?;
     }
@@ -481,7 +533,10 @@ pub fn in_foreign_item_static<E, V: Visit<E>>(node: &mut ForeignItemStatic<E>, v
 /// # Errors
 ///
 /// That of a visit.
-pub fn in_foreign_item_type<E, V: Visit<E>>(node: &mut ForeignItemType<E>, v: &mut V) -> Result<(), AllocError> {
+pub fn in_foreign_item_type<E, V: Visit<E>>(
+    node: &mut ForeignItemType<E>,
+    v: &mut V,
+) -> Result<(), AllocError> {
     for each in node.attrs.iter_mut() {
         in_attribute(each, v)?;
     }
@@ -494,7 +549,10 @@ pub fn in_foreign_item_type<E, V: Visit<E>>(node: &mut ForeignItemType<E>, v: &m
 /// # Errors
 ///
 /// That of a visit.
-pub fn in_foreign_item_macro<E, V: Visit<E>>(node: &mut ForeignItemMacro<E>, v: &mut V) -> Result<(), AllocError> {
+pub fn in_foreign_item_macro<E, V: Visit<E>>(
+    node: &mut ForeignItemMacro<E>,
+    v: &mut V,
+) -> Result<(), AllocError> {
     for each in node.attrs.iter_mut() {
         in_attribute(each, v)?;
     }
@@ -526,7 +584,10 @@ pub fn in_item_trait<E, V: Visit<E>>(node: &mut ItemTrait<E>, v: &mut V) -> Resu
 /// # Errors
 ///
 /// That of a visit.
-pub fn in_item_trait_alias<E, V: Visit<E>>(node: &mut ItemTraitAlias<E>, v: &mut V) -> Result<(), AllocError> {
+pub fn in_item_trait_alias<E, V: Visit<E>>(
+    node: &mut ItemTraitAlias<E>,
+    v: &mut V,
+) -> Result<(), AllocError> {
     for each in node.attrs.iter_mut() {
         in_attribute(each, v)?;
     }
@@ -558,7 +619,10 @@ pub fn in_trait_item<E, V: Visit<E>>(node: &mut TraitItem<E>, v: &mut V) -> Resu
 /// # Errors
 ///
 /// That of a visit.
-pub fn in_trait_item_const<E, V: Visit<E>>(node: &mut TraitItemConst<E>, v: &mut V) -> Result<(), AllocError> {
+pub fn in_trait_item_const<E, V: Visit<E>>(
+    node: &mut TraitItemConst<E>,
+    v: &mut V,
+) -> Result<(), AllocError> {
     for each in node.attrs.iter_mut() {
         in_attribute(each, v)?;
     }
@@ -575,7 +639,10 @@ pub fn in_trait_item_const<E, V: Visit<E>>(node: &mut TraitItemConst<E>, v: &mut
 /// # Errors
 ///
 /// That of a visit.
-pub fn in_trait_item_fn<E, V: Visit<E>>(node: &mut TraitItemFn<E>, v: &mut V) -> Result<(), AllocError> {
+pub fn in_trait_item_fn<E, V: Visit<E>>(
+    node: &mut TraitItemFn<E>,
+    v: &mut V,
+) -> Result<(), AllocError> {
     for each in node.attrs.iter_mut() {
         in_attribute(each, v)?;
     }
@@ -591,7 +658,10 @@ pub fn in_trait_item_fn<E, V: Visit<E>>(node: &mut TraitItemFn<E>, v: &mut V) ->
 /// # Errors
 ///
 /// That of a visit.
-pub fn in_trait_item_type<E, V: Visit<E>>(node: &mut TraitItemType<E>, v: &mut V) -> Result<(), AllocError> {
+pub fn in_trait_item_type<E, V: Visit<E>>(
+    node: &mut TraitItemType<E>,
+    v: &mut V,
+) -> Result<(), AllocError> {
     for each in node.attrs.iter_mut() {
         in_attribute(each, v)?;
     }
@@ -610,7 +680,10 @@ pub fn in_trait_item_type<E, V: Visit<E>>(node: &mut TraitItemType<E>, v: &mut V
 /// # Errors
 ///
 /// That of a visit.
-pub fn in_trait_item_macro<E, V: Visit<E>>(node: &mut TraitItemMacro<E>, v: &mut V) -> Result<(), AllocError> {
+pub fn in_trait_item_macro<E, V: Visit<E>>(
+    node: &mut TraitItemMacro<E>,
+    v: &mut V,
+) -> Result<(), AllocError> {
     for each in node.attrs.iter_mut() {
         in_attribute(each, v)?;
     }
@@ -637,7 +710,10 @@ pub fn in_item_const<E, V: Visit<E>>(node: &mut ItemConst<E>, v: &mut V) -> Resu
 /// # Errors
 ///
 /// That of a visit.
-pub fn in_item_static<E, V: Visit<E>>(node: &mut ItemStatic<E>, v: &mut V) -> Result<(), AllocError> {
+pub fn in_item_static<E, V: Visit<E>>(
+    node: &mut ItemStatic<E>,
+    v: &mut V,
+) -> Result<(), AllocError> {
     for each in node.attrs.iter_mut() {
         in_attribute(each, v)?;
     }
