@@ -1,7 +1,7 @@
 -- What is printed of the front of a bound, and of a segment's arguments.
-use Rattle.std.specs.Prelude.{◌≡◌, ◌++◌, codes}
+use Rattle.std.specs.Prelude.{◌≡◌}
 use Rattle.syn_error.specs.Tokens.{Puts}
-use Rattle.syn_kinds.specs.Values.{marks_tokens}
+use Rattle.syn_kinds.specs.declared.punctuation.Punctuation.{Punctuation}
 use Rattle.node_paths.specs.declared.bound.TraitBoundModifier.{TraitBoundModifier}
 use Rattle.node_paths.specs.declared.bound.TraitBoundModifier.TheVariants as modifiers
 use Rattle.node_paths.specs.declared.path.AngleBracketedGenericArguments.{AngleBracketedGenericArguments}
@@ -9,10 +9,10 @@ use Rattle.node_paths.specs.declared.path.ParenthesizedGenericArguments.{Parenth
 use Rattle.node_paths.specs.declared.path.PathArguments.{PathArguments}
 use Rattle.node_paths.specs.declared.path.PathArguments.TheVariants as arguments
 
--- the ? of a bound that need not hold; nothing of one that holds
-abbrev pub PutsModifier : TraitBoundModifier → Puts
-PutsModifier modifiers.None old new = new ≡ old
-PutsModifier (modifiers.Maybe mark) old new = new ≡ old ++ marks_tokens (codes "?") mark.spans
+-- the ? of a bound that need not hold, as it is printed; nothing of one that holds
+abbrev pub PutsModifier : (Punctuation 34 1 → Puts) → TraitBoundModifier → Puts
+PutsModifier question modifiers.None old new = new ≡ old
+PutsModifier question (modifiers.Maybe mark) old new = question mark old new
 
 -- arguments of either kind as they are printed; nothing where there are none
 abbrev pub PutsArguments : {E : Type 0} → (AngleBracketedGenericArguments E → Puts)

@@ -1,7 +1,7 @@
 //! Readers of paths, attributes and bound lifetimes beside `Parse`.
 //!
-//! What reads the types over an `E` reads one form of each type. So a form that has no type of its own is read as a type
-//! that holds it.
+//! What reads the types over an `E` reads one form of each type. So a form that has no type of its own is read as a
+//! type that holds it.
 
 ghost use Rattle.std.specs.Prelude.{◌≡◌, IfErr, IfOk, OnOk, codes, true};
 ghost use Rattle.syn_error.specs.Faults.{IsSyntax};
@@ -46,8 +46,8 @@ where
     ///
     /// # Errors
     ///
-    /// `Syntax` exactly where no such path stands there. `Memory` only where a growth was refused. The stream is then at
-    /// its start or past it.
+    /// `Syntax` exactly where no such path stands there. `Memory` only where a growth was refused. The stream is then
+    /// at its start or past it.
     pub fn parse_mod_style(input: &mut ParseBuffer<'_>) -> Result<Path<E>, ParseFault>
         ensures found { IfOk result (λ x. ⟦<E::Reader as Reads<ModStylePath<E>>>⟧.reads
             (rest input.old) (record { path = x }) (rest input.new)) }
@@ -69,8 +69,8 @@ where
     ///
     /// # Errors
     ///
-    /// `Syntax` exactly where a `#` begins no attribute. `Memory` only where a growth was refused. The stream is then at
-    /// its start or past it.
+    /// `Syntax` exactly where a `#` begins no attribute. `Memory` only where a growth was refused. The stream is then
+    /// at its start or past it.
     pub fn parse_outer(input: &mut ParseBuffer<'_>) -> Result<Vec<Attribute<E>>, ParseFault>
         ensures found { IfOk result (λ x. ⟦<E::Reader as Reads<OuterAttributes<E>>>⟧.reads
             (rest input.old) (record { attrs = x }) (rest input.new)) }

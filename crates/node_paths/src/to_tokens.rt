@@ -13,6 +13,7 @@ use node_traits::{Native, Prints};
 use proc_macro2::tree::TokenStream;
 use std::alloc::AllocError;
 use syn_error::to_tokens::ToTokens;
+use syn_kinds::token;
 
 impl<E: Native> ToTokens for AngleBracketedGenericArguments<E>
 where
@@ -190,9 +191,9 @@ where
     }
 }
 
-#[tactic(auto, using(syn_error::proofs::Fronts::keeps_same), unfolding(syn_kinds::specs::Table::marks, syn_kinds::specs::Table::sign))]
+#[tactic(auto, using(syn_error::proofs::Fronts::keeps_same))]
 impl ToTokens for TraitBoundModifier {
-    ghost puts = { PutsModifier };
+    ghost puts = { PutsModifier ⟦<token::Question as ToTokens>⟧.puts };
 
     fn to_tokens(&self, tokens: &mut TokenStream) -> Result<(), AllocError> {
         match self {
