@@ -1,7 +1,7 @@
 //! Attributes, macros, paths and bounds that are read from a stream.
 
 ghost use Rattle.node_paths.specs.declared.attribute.Meta.TheVariants as metas;
-ghost use Rattle.node_traits.specs.Reads.{NoneOrOther, NoneStands, ReadAs};
+ghost use Rattle.node_traits.specs.Reads.{NoneOrOther};
 
 use crate::attribute::{Meta, MetaList, MetaNameValue};
 use crate::bound::{BoundLifetimes, LifetimeParam, TraitBound, TypeParamBound};
@@ -10,184 +10,204 @@ use crate::path::{
     AngleBracketedGenericArguments, GenericArgument, ParenthesizedGenericArguments, Path,
     PathSegment, ReturnType,
 };
-use node_traits::Reads;
+use node_traits::{Native, Reads, single};
 use syn_error::ParseFault;
 use syn_input::{Parse, ParseBuffer};
 
-impl<E: Reads<Path<E>> + Drop> Parse for Path<E> {
-    ghost reads = { ReadAs E.kind E.view };
+impl<E: Native> Parse for Path<E>
+where
+    E::Reader: Reads<Path<E>>,
+{
+    ghost reads = { ⟦<E::Reader as Reads<Path<E>>>⟧.reads };
 
-    ghost refuses = { NoneStands E.kind };
+    ghost refuses = { ⟦<E::Reader as Reads<Path<E>>>⟧.refuses };
 
     /// Reads a path in type style: with `<..>` behind its names, and no arguments in parentheses.
     fn parse(input: &mut ParseBuffer<'_>) -> Result<Path<E>, ParseFault> {
-        <E as Reads<Path<E>>>::read(input)
+        <E::Reader as Reads<Path<E>>>::read(input)
     }
 }
 
-impl<E: Reads<PathSegment<E>> + Drop> Parse for PathSegment<E> {
-    ghost reads = { ReadAs E.kind E.view };
+impl<E: Native> Parse for PathSegment<E>
+where
+    E::Reader: Reads<PathSegment<E>>,
+{
+    ghost reads = { ⟦<E::Reader as Reads<PathSegment<E>>>⟧.reads };
 
-    ghost refuses = { NoneStands E.kind };
+    ghost refuses = { ⟦<E::Reader as Reads<PathSegment<E>>>⟧.refuses };
 
     /// Reads a name, and arguments in angle brackets behind it as in a type.
     fn parse(input: &mut ParseBuffer<'_>) -> Result<PathSegment<E>, ParseFault> {
-        <E as Reads<PathSegment<E>>>::read(input)
+        <E::Reader as Reads<PathSegment<E>>>::read(input)
     }
 }
 
-impl<E: Reads<AngleBracketedGenericArguments<E>> + Drop> Parse
-    for AngleBracketedGenericArguments<E>
+impl<E: Native> Parse for AngleBracketedGenericArguments<E>
+where
+    E::Reader: Reads<AngleBracketedGenericArguments<E>>,
 {
-    ghost reads = { ReadAs E.kind E.view };
+    ghost reads = { ⟦<E::Reader as Reads<AngleBracketedGenericArguments<E>>>⟧.reads };
 
-    ghost refuses = { NoneStands E.kind };
+    ghost refuses = { ⟦<E::Reader as Reads<AngleBracketedGenericArguments<E>>>⟧.refuses };
 
     /// Reads arguments in angle brackets.
     fn parse(input: &mut ParseBuffer<'_>) -> Result<AngleBracketedGenericArguments<E>, ParseFault> {
-        <E as Reads<AngleBracketedGenericArguments<E>>>::read(input)
+        <E::Reader as Reads<AngleBracketedGenericArguments<E>>>::read(input)
     }
 }
 
-impl<E: Reads<ParenthesizedGenericArguments<E>> + Drop> Parse for ParenthesizedGenericArguments<E> {
-    ghost reads = { ReadAs E.kind E.view };
+impl<E: Native> Parse for ParenthesizedGenericArguments<E>
+where
+    E::Reader: Reads<ParenthesizedGenericArguments<E>>,
+{
+    ghost reads = { ⟦<E::Reader as Reads<ParenthesizedGenericArguments<E>>>⟧.reads };
 
-    ghost refuses = { NoneStands E.kind };
+    ghost refuses = { ⟦<E::Reader as Reads<ParenthesizedGenericArguments<E>>>⟧.refuses };
 
     /// Reads arguments in parentheses, and what is returned.
     fn parse(input: &mut ParseBuffer<'_>) -> Result<ParenthesizedGenericArguments<E>, ParseFault> {
-        <E as Reads<ParenthesizedGenericArguments<E>>>::read(input)
+        <E::Reader as Reads<ParenthesizedGenericArguments<E>>>::read(input)
     }
 }
 
-impl<E: Reads<GenericArgument<E>> + Drop> Parse for GenericArgument<E> {
-    ghost reads = { ReadAs E.kind E.view };
+impl<E: Native> Parse for GenericArgument<E>
+where
+    E::Reader: Reads<GenericArgument<E>>,
+{
+    ghost reads = { ⟦<E::Reader as Reads<GenericArgument<E>>>⟧.reads };
 
-    ghost refuses = { NoneStands E.kind };
+    ghost refuses = { ⟦<E::Reader as Reads<GenericArgument<E>>>⟧.refuses };
 
     /// Reads an argument as in angle brackets.
     fn parse(input: &mut ParseBuffer<'_>) -> Result<GenericArgument<E>, ParseFault> {
-        <E as Reads<GenericArgument<E>>>::read(input)
+        <E::Reader as Reads<GenericArgument<E>>>::read(input)
     }
 }
 
-impl<E: Reads<ReturnType<E>> + Drop> Parse for ReturnType<E> {
-    ghost reads = { ReadAs E.kind E.view };
+impl<E: Native> Parse for ReturnType<E>
+where
+    E::Reader: Reads<ReturnType<E>>,
+{
+    ghost reads = { ⟦<E::Reader as Reads<ReturnType<E>>>⟧.reads };
 
-    ghost refuses = { NoneStands E.kind };
+    ghost refuses = { ⟦<E::Reader as Reads<ReturnType<E>>>⟧.refuses };
 
     /// Reads `->` and a type, in which bounds may stand with `+`, or nothing.
     fn parse(input: &mut ParseBuffer<'_>) -> Result<ReturnType<E>, ParseFault> {
-        <E as Reads<ReturnType<E>>>::read(input)
+        <E::Reader as Reads<ReturnType<E>>>::read(input)
     }
 }
 
-impl<E: Reads<BoundLifetimes<E>> + Drop> Parse for BoundLifetimes<E> {
-    ghost reads = { ReadAs E.kind E.view };
+impl<E: Native> Parse for BoundLifetimes<E>
+where
+    E::Reader: Reads<BoundLifetimes<E>>,
+{
+    ghost reads = { ⟦<E::Reader as Reads<BoundLifetimes<E>>>⟧.reads };
 
-    ghost refuses = { NoneStands E.kind };
+    ghost refuses = { ⟦<E::Reader as Reads<BoundLifetimes<E>>>⟧.refuses };
 
     /// Reads `for` and lifetimes in angle brackets.
     fn parse(input: &mut ParseBuffer<'_>) -> Result<BoundLifetimes<E>, ParseFault> {
-        <E as Reads<BoundLifetimes<E>>>::read(input)
+        <E::Reader as Reads<BoundLifetimes<E>>>::read(input)
     }
 }
 
-impl<E: Reads<LifetimeParam<E>> + Drop> Parse for LifetimeParam<E> {
-    ghost reads = { ReadAs E.kind E.view };
+impl<E: Native> Parse for LifetimeParam<E>
+where
+    E::Reader: Reads<LifetimeParam<E>>,
+{
+    ghost reads = { ⟦<E::Reader as Reads<LifetimeParam<E>>>⟧.reads };
 
-    ghost refuses = { NoneStands E.kind };
+    ghost refuses = { ⟦<E::Reader as Reads<LifetimeParam<E>>>⟧.refuses };
 
     /// Reads a lifetime that is declared, with its attributes and its bounds.
     fn parse(input: &mut ParseBuffer<'_>) -> Result<LifetimeParam<E>, ParseFault> {
-        <E as Reads<LifetimeParam<E>>>::read(input)
+        <E::Reader as Reads<LifetimeParam<E>>>::read(input)
     }
 }
 
-impl<E: Reads<TypeParamBound<E>> + Drop> Parse for TypeParamBound<E> {
-    ghost reads = { ReadAs E.kind E.view };
+impl<E: Native> Parse for TypeParamBound<E>
+where
+    E::Reader: Reads<TypeParamBound<E>>,
+{
+    ghost reads = { ⟦<E::Reader as Reads<TypeParamBound<E>>>⟧.reads };
 
-    ghost refuses = { NoneStands E.kind };
+    ghost refuses = { ⟦<E::Reader as Reads<TypeParamBound<E>>>⟧.refuses };
 
     /// Reads a bound.
     fn parse(input: &mut ParseBuffer<'_>) -> Result<TypeParamBound<E>, ParseFault> {
-        <E as Reads<TypeParamBound<E>>>::read(input)
+        <E::Reader as Reads<TypeParamBound<E>>>::read(input)
     }
 }
 
-impl<E: Reads<TraitBound<E>> + Drop> Parse for TraitBound<E> {
-    ghost reads = { ReadAs E.kind E.view };
+impl<E: Native> Parse for TraitBound<E>
+where
+    E::Reader: Reads<TraitBound<E>>,
+{
+    ghost reads = { ⟦<E::Reader as Reads<TraitBound<E>>>⟧.reads };
 
-    ghost refuses = { NoneStands E.kind };
+    ghost refuses = { ⟦<E::Reader as Reads<TraitBound<E>>>⟧.refuses };
 
     /// Reads a trait as a bound.
     fn parse(input: &mut ParseBuffer<'_>) -> Result<TraitBound<E>, ParseFault> {
-        <E as Reads<TraitBound<E>>>::read(input)
+        <E::Reader as Reads<TraitBound<E>>>::read(input)
     }
 }
 
-impl<E: Reads<Macro<E>> + Drop> Parse for Macro<E> {
-    ghost reads = { ReadAs E.kind E.view };
+impl<E: Native> Parse for Macro<E>
+where
+    E::Reader: Reads<Macro<E>>,
+{
+    ghost reads = { ⟦<E::Reader as Reads<Macro<E>>>⟧.reads };
 
-    ghost refuses = { NoneStands E.kind };
+    ghost refuses = { ⟦<E::Reader as Reads<Macro<E>>>⟧.refuses };
 
     /// Reads a call of a macro.
     fn parse(input: &mut ParseBuffer<'_>) -> Result<Macro<E>, ParseFault> {
-        <E as Reads<Macro<E>>>::read(input)
+        <E::Reader as Reads<Macro<E>>>::read(input)
     }
 }
 
-impl<E: Reads<Meta<E>> + Drop> Parse for Meta<E> {
-    ghost reads = { ReadAs E.kind E.view };
+impl<E: Native> Parse for Meta<E>
+where
+    E::Reader: Reads<Meta<E>>,
+{
+    ghost reads = { ⟦<E::Reader as Reads<Meta<E>>>⟧.reads };
 
-    ghost refuses = { NoneStands E.kind };
+    ghost refuses = { ⟦<E::Reader as Reads<Meta<E>>>⟧.refuses };
 
     /// Reads what an attribute holds.
     fn parse(input: &mut ParseBuffer<'_>) -> Result<Meta<E>, ParseFault> {
-        <E as Reads<Meta<E>>>::read(input)
+        <E::Reader as Reads<Meta<E>>>::read(input)
     }
 }
 
-#[tactic(auto, using(node_traits::proofs::Others::other_stands))]
-impl<E: Reads<Meta<E>> + Drop> Parse for MetaList<E> {
-    ghost reads = { λ tokens x. ReadAs E.kind E.view tokens (metas.List x) };
+impl<E: Native> Parse for MetaList<E>
+where
+    E::Reader: Reads<Meta<E>>,
+{
+    ghost reads = { λ tokens x. ⟦<E::Reader as Reads<Meta<E>>>⟧.reads tokens (metas.List x) };
 
-    ghost refuses = { NoneOrOther E.kind E.view metas.List };
+    ghost refuses = { NoneOrOther ⟦<E::Reader as Reads<Meta<E>>>⟧.reads ⟦<E::Reader as Reads<Meta<E>>>⟧.refuses
+        metas.List };
 
     /// Reads what an attribute holds, and refuses all but a path and a group.
     fn parse(input: &mut ParseBuffer<'_>) -> Result<MetaList<E>, ParseFault> {
-        let mut ahead = input.fork();
-        match <E as Reads<Meta<E>>>::read(&mut ahead)? {
-            Meta::List(form) => {
-                input.advance_to(ahead);
-                Ok(form)
-            }
-            other => {
-                drop(other);
-                Err(input.expected("path and tokens in a group"))
-            }
-        }
+        single::<Meta<E>, MetaList<E>, E::Reader>(input, "path and tokens in a group")
     }
 }
 
-#[tactic(auto, using(node_traits::proofs::Others::other_stands))]
-impl<E: Reads<Meta<E>> + Drop> Parse for MetaNameValue<E> {
-    ghost reads = { λ tokens x. ReadAs E.kind E.view tokens (metas.NameValue x) };
+impl<E: Native> Parse for MetaNameValue<E>
+where
+    E::Reader: Reads<Meta<E>>,
+{
+    ghost reads = { λ tokens x. ⟦<E::Reader as Reads<Meta<E>>>⟧.reads tokens (metas.NameValue x) };
 
-    ghost refuses = { NoneOrOther E.kind E.view metas.NameValue };
+    ghost refuses = { NoneOrOther ⟦<E::Reader as Reads<Meta<E>>>⟧.reads ⟦<E::Reader as Reads<Meta<E>>>⟧.refuses
+        metas.NameValue };
 
     /// Reads what an attribute holds, and refuses all but a path and a value.
     fn parse(input: &mut ParseBuffer<'_>) -> Result<MetaNameValue<E>, ParseFault> {
-        let mut ahead = input.fork();
-        match <E as Reads<Meta<E>>>::read(&mut ahead)? {
-            Meta::NameValue(form) => {
-                input.advance_to(ahead);
-                Ok(form)
-            }
-            other => {
-                drop(other);
-                Err(input.expected("path, `=` and a value"))
-            }
-        }
+        single::<Meta<E>, MetaNameValue<E>, E::Reader>(input, "path, `=` and a value")
     }
 }

@@ -5,6 +5,7 @@
 //! - `convert` (private): structs as the enums that hold them.
 //! - `kinds`: each kind of type.
 //! - `function`: function pointers.
+//! - `variants` (private): structs that are taken out of them.
 //! - `parse` (private): types that are read from a stream.
 //! - `to_tokens` (private): what is printed of them.
 #![tactic(auto)]
@@ -14,6 +15,7 @@ pub mod function;
 pub mod kinds;
 mod parse;
 mod to_tokens;
+mod variants;
 
 pub use function::{FnPtrArg, TypeFnPtr};
 pub use kinds::{

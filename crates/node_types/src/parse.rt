@@ -1,6 +1,6 @@
 //! Types that are read from a stream.
 
-ghost use Rattle.node_traits.specs.Reads.{NoneOrOther, NoneStands, ReadAs};
+ghost use Rattle.node_traits.specs.Reads.{NoneOrOther};
 ghost use Rattle.node_types.specs.declared.«Type».TheVariants as types;
 ghost use Rattle.proc_macro2.specs.Token.{plain};
 ghost use Rattle.std.specs.Prelude.{◌++◌, ◌≡◌, codes, false};
@@ -11,118 +11,96 @@ use crate::kinds::{
     TypeArray, TypeImplTrait, TypeInfer, TypeNever, TypeParen, TypePath, TypePtr, TypeReference,
     TypeSlice, TypeTraitObject, TypeTuple,
 };
-use node_traits::Reads;
+use node_traits::{Native, Reads, single};
 use syn_error::ParseFault;
 use syn_input::{Parse, ParseBuffer};
 use syn_kinds::token;
 
-impl<E: Reads<Type<E>> + Drop> Parse for Type<E> {
-    ghost reads = { ReadAs E.kind E.view };
+impl<E: Native> Parse for Type<E>
+where
+    E::Reader: Reads<Type<E>>,
+{
+    ghost reads = { ⟦<E::Reader as Reads<Type<E>>>⟧.reads };
 
-    ghost refuses = { NoneStands E.kind };
+    ghost refuses = { ⟦<E::Reader as Reads<Type<E>>>⟧.refuses };
 
     /// Reads a type, in which bounds may stand with `+`.
     fn parse(input: &mut ParseBuffer<'_>) -> Result<Type<E>, ParseFault> {
-        <E as Reads<Type<E>>>::read(input)
+        <E::Reader as Reads<Type<E>>>::read(input)
     }
 }
 
-#[tactic(auto, using(node_traits::proofs::Others::other_stands))]
-impl<E: Reads<Type<E>> + Drop> Parse for TypeArray<E> {
-    ghost reads = { λ tokens x. ReadAs E.kind E.view tokens (types.Array x) };
+impl<E: Native> Parse for TypeArray<E>
+where
+    E::Reader: Reads<Type<E>>,
+{
+    ghost reads = { λ tokens x. ⟦<E::Reader as Reads<Type<E>>>⟧.reads tokens (types.Array x) };
 
-    ghost refuses = { NoneOrOther E.kind E.view types.Array };
+    ghost refuses = { NoneOrOther ⟦<E::Reader as Reads<Type<E>>>⟧.reads ⟦<E::Reader as Reads<Type<E>>>⟧.refuses
+        types.Array };
 
     /// Reads a type, and refuses all but an array.
     fn parse(input: &mut ParseBuffer<'_>) -> Result<TypeArray<E>, ParseFault> {
-        let mut ahead = input.fork();
-        match <E as Reads<Type<E>>>::read(&mut ahead)? {
-            Type::Array(form) => {
-                input.advance_to(ahead);
-                Ok(form)
-            }
-            other => {
-                drop(other);
-                Err(input.expected("`;` and the length of an array"))
-            }
-        }
+        single::<Type<E>, TypeArray<E>, E::Reader>(input, "`;` and the length of an array")
     }
 }
 
-#[tactic(auto, using(node_traits::proofs::Others::other_stands))]
-impl<E: Reads<Type<E>> + Drop> Parse for TypeParen<E> {
-    ghost reads = { λ tokens x. ReadAs E.kind E.view tokens (types.Paren x) };
+impl<E: Native> Parse for TypeParen<E>
+where
+    E::Reader: Reads<Type<E>>,
+{
+    ghost reads = { λ tokens x. ⟦<E::Reader as Reads<Type<E>>>⟧.reads tokens (types.Paren x) };
 
-    ghost refuses = { NoneOrOther E.kind E.view types.Paren };
+    ghost refuses = { NoneOrOther ⟦<E::Reader as Reads<Type<E>>>⟧.reads ⟦<E::Reader as Reads<Type<E>>>⟧.refuses
+        types.Paren };
 
     /// Reads a type, and refuses all but one in parentheses.
     fn parse(input: &mut ParseBuffer<'_>) -> Result<TypeParen<E>, ParseFault> {
-        let mut ahead = input.fork();
-        match <E as Reads<Type<E>>>::read(&mut ahead)? {
-            Type::Paren(form) => {
-                input.advance_to(ahead);
-                Ok(form)
-            }
-            other => {
-                drop(other);
-                Err(input.expected("one type in parentheses"))
-            }
-        }
+        single::<Type<E>, TypeParen<E>, E::Reader>(input, "one type in parentheses")
     }
 }
 
-#[tactic(auto, using(node_traits::proofs::Others::other_stands))]
-impl<E: Reads<Type<E>> + Drop> Parse for TypeSlice<E> {
-    ghost reads = { λ tokens x. ReadAs E.kind E.view tokens (types.Slice x) };
+impl<E: Native> Parse for TypeSlice<E>
+where
+    E::Reader: Reads<Type<E>>,
+{
+    ghost reads = { λ tokens x. ⟦<E::Reader as Reads<Type<E>>>⟧.reads tokens (types.Slice x) };
 
-    ghost refuses = { NoneOrOther E.kind E.view types.Slice };
+    ghost refuses = { NoneOrOther ⟦<E::Reader as Reads<Type<E>>>⟧.reads ⟦<E::Reader as Reads<Type<E>>>⟧.refuses
+        types.Slice };
 
     /// Reads a type, and refuses all but a slice.
     fn parse(input: &mut ParseBuffer<'_>) -> Result<TypeSlice<E>, ParseFault> {
-        let mut ahead = input.fork();
-        match <E as Reads<Type<E>>>::read(&mut ahead)? {
-            Type::Slice(form) => {
-                input.advance_to(ahead);
-                Ok(form)
-            }
-            other => {
-                drop(other);
-                Err(input.expected("slice"))
-            }
-        }
+        single::<Type<E>, TypeSlice<E>, E::Reader>(input, "slice")
     }
 }
 
-#[tactic(auto, using(node_traits::proofs::Others::other_stands))]
-impl<E: Reads<Type<E>> + Drop> Parse for TypeTuple<E> {
-    ghost reads = { λ tokens x. ReadAs E.kind E.view tokens (types.Tuple x) };
+impl<E: Native> Parse for TypeTuple<E>
+where
+    E::Reader: Reads<Type<E>>,
+{
+    ghost reads = { λ tokens x. ⟦<E::Reader as Reads<Type<E>>>⟧.reads tokens (types.Tuple x) };
 
-    ghost refuses = { NoneOrOther E.kind E.view types.Tuple };
+    ghost refuses = { NoneOrOther ⟦<E::Reader as Reads<Type<E>>>⟧.reads ⟦<E::Reader as Reads<Type<E>>>⟧.refuses
+        types.Tuple };
 
     /// Reads a type, and refuses all but a tuple.
     fn parse(input: &mut ParseBuffer<'_>) -> Result<TypeTuple<E>, ParseFault> {
-        let mut ahead = input.fork();
-        match <E as Reads<Type<E>>>::read(&mut ahead)? {
-            Type::Tuple(form) => {
-                input.advance_to(ahead);
-                Ok(form)
-            }
-            other => {
-                drop(other);
-                Err(input.expected("tuple"))
-            }
-        }
+        single::<Type<E>, TypeTuple<E>, E::Reader>(input, "tuple")
     }
 }
 
-impl<E: Reads<TypeFnPtr<E>> + Drop> Parse for TypeFnPtr<E> {
-    ghost reads = { ReadAs E.kind E.view };
+impl<E: Native> Parse for TypeFnPtr<E>
+where
+    E::Reader: Reads<TypeFnPtr<E>>,
+{
+    ghost reads = { ⟦<E::Reader as Reads<TypeFnPtr<E>>>⟧.reads };
 
-    ghost refuses = { NoneStands E.kind };
+    ghost refuses = { ⟦<E::Reader as Reads<TypeFnPtr<E>>>⟧.refuses };
 
     /// Reads a function pointer.
     fn parse(input: &mut ParseBuffer<'_>) -> Result<TypeFnPtr<E>, ParseFault> {
-        <E as Reads<TypeFnPtr<E>>>::read(input)
+        <E::Reader as Reads<TypeFnPtr<E>>>::read(input)
     }
 }
 
@@ -159,68 +137,86 @@ impl Parse for TypeNever {
     }
 }
 
-impl<E: Reads<TypeImplTrait<E>> + Drop> Parse for TypeImplTrait<E> {
-    ghost reads = { ReadAs E.kind E.view };
+impl<E: Native> Parse for TypeImplTrait<E>
+where
+    E::Reader: Reads<TypeImplTrait<E>>,
+{
+    ghost reads = { ⟦<E::Reader as Reads<TypeImplTrait<E>>>⟧.reads };
 
-    ghost refuses = { NoneStands E.kind };
+    ghost refuses = { ⟦<E::Reader as Reads<TypeImplTrait<E>>>⟧.refuses };
 
     /// Reads `impl` and bounds with `+`.
     fn parse(input: &mut ParseBuffer<'_>) -> Result<TypeImplTrait<E>, ParseFault> {
-        <E as Reads<TypeImplTrait<E>>>::read(input)
+        <E::Reader as Reads<TypeImplTrait<E>>>::read(input)
     }
 }
 
-impl<E: Reads<TypePath<E>> + Drop> Parse for TypePath<E> {
-    ghost reads = { ReadAs E.kind E.view };
+impl<E: Native> Parse for TypePath<E>
+where
+    E::Reader: Reads<TypePath<E>>,
+{
+    ghost reads = { ⟦<E::Reader as Reads<TypePath<E>>>⟧.reads };
 
-    ghost refuses = { NoneStands E.kind };
+    ghost refuses = { ⟦<E::Reader as Reads<TypePath<E>>>⟧.refuses };
 
     /// Reads a path or a qualified one, with no arguments in parentheses.
     fn parse(input: &mut ParseBuffer<'_>) -> Result<TypePath<E>, ParseFault> {
-        <E as Reads<TypePath<E>>>::read(input)
+        <E::Reader as Reads<TypePath<E>>>::read(input)
     }
 }
 
-impl<E: Reads<TypePtr<E>> + Drop> Parse for TypePtr<E> {
-    ghost reads = { ReadAs E.kind E.view };
+impl<E: Native> Parse for TypePtr<E>
+where
+    E::Reader: Reads<TypePtr<E>>,
+{
+    ghost reads = { ⟦<E::Reader as Reads<TypePtr<E>>>⟧.reads };
 
-    ghost refuses = { NoneStands E.kind };
+    ghost refuses = { ⟦<E::Reader as Reads<TypePtr<E>>>⟧.refuses };
 
     /// Reads a raw pointer.
     fn parse(input: &mut ParseBuffer<'_>) -> Result<TypePtr<E>, ParseFault> {
-        <E as Reads<TypePtr<E>>>::read(input)
+        <E::Reader as Reads<TypePtr<E>>>::read(input)
     }
 }
 
-impl<E: Reads<TypeReference<E>> + Drop> Parse for TypeReference<E> {
-    ghost reads = { ReadAs E.kind E.view };
+impl<E: Native> Parse for TypeReference<E>
+where
+    E::Reader: Reads<TypeReference<E>>,
+{
+    ghost reads = { ⟦<E::Reader as Reads<TypeReference<E>>>⟧.reads };
 
-    ghost refuses = { NoneStands E.kind };
+    ghost refuses = { ⟦<E::Reader as Reads<TypeReference<E>>>⟧.refuses };
 
     /// Reads a reference.
     fn parse(input: &mut ParseBuffer<'_>) -> Result<TypeReference<E>, ParseFault> {
-        <E as Reads<TypeReference<E>>>::read(input)
+        <E::Reader as Reads<TypeReference<E>>>::read(input)
     }
 }
 
-impl<E: Reads<TypeTraitObject<E>> + Drop> Parse for TypeTraitObject<E> {
-    ghost reads = { ReadAs E.kind E.view };
+impl<E: Native> Parse for TypeTraitObject<E>
+where
+    E::Reader: Reads<TypeTraitObject<E>>,
+{
+    ghost reads = { ⟦<E::Reader as Reads<TypeTraitObject<E>>>⟧.reads };
 
-    ghost refuses = { NoneStands E.kind };
+    ghost refuses = { ⟦<E::Reader as Reads<TypeTraitObject<E>>>⟧.refuses };
 
     /// Reads `dyn` and bounds with `+`.
     fn parse(input: &mut ParseBuffer<'_>) -> Result<TypeTraitObject<E>, ParseFault> {
-        <E as Reads<TypeTraitObject<E>>>::read(input)
+        <E::Reader as Reads<TypeTraitObject<E>>>::read(input)
     }
 }
 
-impl<E: Reads<FnPtrArg<E>> + Drop> Parse for FnPtrArg<E> {
-    ghost reads = { ReadAs E.kind E.view };
+impl<E: Native> Parse for FnPtrArg<E>
+where
+    E::Reader: Reads<FnPtrArg<E>>,
+{
+    ghost reads = { ⟦<E::Reader as Reads<FnPtrArg<E>>>⟧.reads };
 
-    ghost refuses = { NoneStands E.kind };
+    ghost refuses = { ⟦<E::Reader as Reads<FnPtrArg<E>>>⟧.refuses };
 
     /// Reads a parameter of a function pointer.
     fn parse(input: &mut ParseBuffer<'_>) -> Result<FnPtrArg<E>, ParseFault> {
-        <E as Reads<FnPtrArg<E>>>::read(input)
+        <E::Reader as Reads<FnPtrArg<E>>>::read(input)
     }
 }
