@@ -17,6 +17,7 @@
 //! - `placeholder` (private): an expression where none is known yet.
 //! - `statement`: statements.
 //! - `to_tokens` (private): what is printed of them.
+//! - `variants_alone`, `variants_operands` (private): structs, each taken out of the enum that holds it.
 #![tactic(auto)]
 
 pub mod atom;
@@ -34,6 +35,8 @@ mod parse_operands;
 mod placeholder;
 pub mod statement;
 mod to_tokens;
+mod variants_alone;
+mod variants_operands;
 
 pub use atom::{
     ExprArray, ExprGroup, ExprInfer, ExprLit, ExprMacro, ExprParen, ExprPath, ExprRepeat,
