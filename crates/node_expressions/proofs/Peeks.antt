@@ -120,8 +120,16 @@ pub word_or_tree_seen : (ts : List Token) →
     || lifetime_stands ts ≡ sees word_or_tree ts
 unfolding word
 word_or_tree_seen ts =
-    simp (seen_or, seen_but, word_seen (word 1) ts, any_word_seen ts, group_seen ts, literal_seen ts, lifetime_seen ts,
-    or_assoc)
+    simp (
+      seen_or,
+      seen_but,
+      word_seen (word 1) ts,
+      any_word_seen ts,
+      group_seen ts,
+      literal_seen ts,
+      lifetime_seen ts,
+      or_assoc,
+    )
 
 pub prefix_operator_seen : (ts : List Token) →
     ((((not (marks_stand (marks 23 2) ts) && marks_stand (marks 24 1) ts)

@@ -66,7 +66,9 @@ where
     ///
     /// `Syntax` exactly where none stands there. `Memory` only where a growth was refused. The stream is then at its
     /// start or past it.
-    pub fn parse_with_earlier_boundary_rule(input: &mut ParseBuffer<'_>) -> Result<Expr<E>, ParseFault>
+    pub fn parse_with_earlier_boundary_rule(
+        input: &mut ParseBuffer<'_>,
+    ) -> Result<Expr<E>, ParseFault>
         ensures found { IfOk result (λ x. E.Reader.reads (rest input.old) (record { expr = x }) (rest input.new)) }
         ensures none { IfErr result (λ e. IsSyntax e → E.Reader.refuses (rest input.old)) }
         ensures noted { OnOk result (input.new.noted ≡ input.old.noted) }

@@ -139,7 +139,7 @@ impl<E> TryFrom<Expr<E>> for ExprGroup<E> {
 
     ghost try_from_gives = { TakesOut exprs.Group };
 
-    /// Takes an expression in an invisible group out of the expression. The error is any other expression, as it is.
+    /// Takes an invisible group out of the expression. The error is any other expression, as it is.
     fn try_from(expr: Expr<E>) -> Result<ExprGroup<E>, Expr<E>> {
         match expr {
             Expr::Group(form) => Ok(form),
@@ -279,7 +279,7 @@ impl<E> TryFrom<Expr<E>> for ExprParen<E> {
 
     ghost try_from_gives = { TakesOut exprs.Paren };
 
-    /// Takes one in parentheses out of the expression. The error is any other expression, as it is.
+    /// Takes parentheses out of the expression. The error is any other expression, as it is.
     fn try_from(expr: Expr<E>) -> Result<ExprParen<E>, Expr<E>> {
         match expr {
             Expr::Paren(form) => Ok(form),
