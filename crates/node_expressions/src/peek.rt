@@ -1,4 +1,6 @@
 //! Whether an expression begins at the place of a stream.
+//!
+//! Each test looks at a token or two, so all of them are asked: they are joined by `|`.
 
 ghost use Rattle.node_expressions.specs.Operands.{path_or_range, prefix_operator, word_or_tree};
 ghost use Rattle.std.specs.Prelude.{◌&&◌, ◌≡◌, not};
