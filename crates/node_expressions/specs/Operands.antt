@@ -10,8 +10,8 @@ word_or_tree = (no (at "as") then a_word any_text) or opening or a_quoted any_te
 -- an operator in front of an operand, or the | of a closure, and none that is longer
 abbrev pub prefix_operator : Look
 prefix_operator =
-    (no (marks "!=") then marks "!") or (no (marks "-=" or marks "->") then marks "-") or (no (marks "*=") then marks "*")
-    or (no (marks "|=") then marks "|") or (no (marks "&=") then marks "&")
+    (no (marks "!=") then marks "!") or (no (marks "-=" or marks "->") then marks "-")
+    or (no (marks "*=") then marks "*") or (no (marks "|=") then marks "|") or (no (marks "&=") then marks "&")
 
 -- the mark of a range, of a path or of an attribute
 abbrev pub path_or_range : Look
