@@ -1,1 +1,3 @@
 pub mod ExprPlaceholder
+pub mod Labels
+pub mod Operands

@@ -1,6 +1,8 @@
 //! Structs as the enum that holds them.
 
 ghost use Rattle.node_expressions.specs.declared.expr.Expr.TheVariants as exprs;
+ghost use Rattle.node_expressions.specs.declared.statement.Stmt.TheVariants as stmts;
+ghost use Rattle.node_traits.specs.Variants.{TakesOut};
 ghost use Rattle.std.specs.Prelude.{◌≡◌};
 
 use crate::atom::{
@@ -18,6 +20,8 @@ use crate::jump::{ExprBreak, ExprContinue, ExprReturn, ExprYield};
 use crate::operator::{
     ExprAssign, ExprBinary, ExprCast, ExprRange, ExprRawAddr, ExprReference, ExprUnary,
 };
+use crate::statement::{Local, Stmt, StmtMacro};
+use node_traits::Variant;
 
 impl<E> From<ExprArray<E>> for Expr<E> {
     ghost from_gives = { λ node made. made ≡ exprs.Array node };
@@ -368,4 +372,62 @@ impl<E> From<ExprYield<E>> for Expr<E> {
     fn from(node: ExprYield<E>) -> Expr<E> {
         Expr::Yield(node)
     }
+}
+
+impl<E> From<Local<E>> for Stmt<E> {
+    ghost from_gives = { λ node made. made ≡ stmts.Local node };
+
+    /// The same as a statement.
+    fn from(node: Local<E>) -> Stmt<E> {
+        Stmt::Local(node)
+    }
+}
+
+impl<E> TryFrom<Stmt<E>> for Local<E> {
+    type Error = Stmt<E>;
+
+    ghost try_from_gives = { TakesOut stmts.Local };
+
+    /// Takes a variable out of the statement. The error is any other statement, as it is.
+    fn try_from(stmt: Stmt<E>) -> Result<Local<E>, Stmt<E>> {
+        match stmt {
+            Stmt::Local(node) => Ok(node),
+            other => Err(other),
+        }
+    }
+}
+
+impl<E> Variant<Stmt<E>> for Local<E> {
+    ghost variant = { stmts.Local };
+
+    ghost takes_out = { λ _ _ given. given };
+}
+
+impl<E> From<StmtMacro<E>> for Stmt<E> {
+    ghost from_gives = { λ node made. made ≡ stmts.Macro node };
+
+    /// The same as a statement.
+    fn from(node: StmtMacro<E>) -> Stmt<E> {
+        Stmt::Macro(node)
+    }
+}
+
+impl<E> TryFrom<Stmt<E>> for StmtMacro<E> {
+    type Error = Stmt<E>;
+
+    ghost try_from_gives = { TakesOut stmts.Macro };
+
+    /// Takes a call of a macro out of the statement. The error is any other statement, as it is.
+    fn try_from(stmt: Stmt<E>) -> Result<StmtMacro<E>, Stmt<E>> {
+        match stmt {
+            Stmt::Macro(node) => Ok(node),
+            other => Err(other),
+        }
+    }
+}
+
+impl<E> Variant<Stmt<E>> for StmtMacro<E> {
+    ghost variant = { stmts.Macro };
+
+    ghost takes_out = { λ _ _ given. given };
 }

@@ -12,11 +12,15 @@
 //! - `convert` (private): structs as the enum that holds them.
 //! - `expr`: expressions, each of one form.
 //! - `jump`: expressions that leave what runs.
+//! - `label` (private): labels, read from a stream and printed.
 //! - `parse` (private): expressions, statements and what stands in them, read from a stream.
 //! - `parse_alone`, `parse_operands` (private): forms of expressions, read from a stream.
+//! - `peek` (private): whether an expression begins at the place of a stream.
 //! - `placeholder` (private): an expression where none is known yet.
+//! - `readers`: what is read by a name of its own.
 //! - `statement`: statements.
 //! - `to_tokens` (private): what is printed of them.
+//! - `variants_alone`, `variants_operands` (private): structs, each taken out of the enum that holds it.
 #![tactic(auto)]
 
 pub mod atom;
@@ -27,13 +31,18 @@ pub mod closure;
 mod convert;
 pub mod expr;
 pub mod jump;
+mod label;
 pub mod operator;
 mod parse;
 mod parse_alone;
 mod parse_operands;
+mod peek;
 mod placeholder;
+pub mod readers;
 pub mod statement;
 mod to_tokens;
+mod variants_alone;
+mod variants_operands;
 
 pub use atom::{
     ExprArray, ExprGroup, ExprInfer, ExprLit, ExprMacro, ExprParen, ExprPath, ExprRepeat,

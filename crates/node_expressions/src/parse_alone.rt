@@ -1,7 +1,7 @@
 //! Expressions that stand without an operand before or behind them, each read as a single form.
 
 ghost use Rattle.node_expressions.specs.declared.expr.Expr.TheVariants as exprs;
-ghost use Rattle.node_traits.specs.Reads.{NoneOrOther, ReadAs};
+ghost use Rattle.node_traits.specs.Reads.{NoneOrOther};
 
 use crate::atom::{
     ExprArray, ExprInfer, ExprLit, ExprMacro, ExprParen, ExprPath, ExprRepeat, ExprTuple,
@@ -12,424 +12,272 @@ use crate::block::{
 use crate::branch::{ExprIf, ExprMatch};
 use crate::expr::Expr;
 use crate::jump::ExprContinue;
-use node_traits::Reads;
+use node_traits::{Native, Reads, single};
 use syn_error::ParseFault;
 use syn_input::{Parse, ParseBuffer};
 
-#[tactic(auto, using(node_traits::proofs::Others::other_stands))]
-impl<E: Reads<Expr<E>> + Drop> Parse for ExprArray<E> {
-    ghost reads = { λ tokens x. ReadAs E.kind E.view tokens (exprs.Array x) };
+impl<E: Native> Parse for ExprArray<E>
+where
+    E::Reader: Reads<Expr<E>>,
+{
+    ghost reads = { λ tokens x. E.Reader.reads tokens (exprs.Array x) };
 
-    ghost refuses = { NoneOrOther E.kind E.view exprs.Array };
+    ghost refuses = { NoneOrOther E.Reader.reads E.Reader.refuses exprs.Array };
 
     /// Reads an expression, and refuses all but an array.
     fn parse(input: &mut ParseBuffer<'_>) -> Result<ExprArray<E>, ParseFault> {
-        let mut ahead = input.fork();
-        match <E as Reads<Expr<E>>>::read(&mut ahead)? {
-            Expr::Array(form) => {
-                input.advance_to(ahead);
-                Ok(form)
-            }
-            other => {
-                drop(other);
-                Err(input.expected("array"))
-            }
-        }
+        single::<Expr<E>, ExprArray<E>, E::Reader>(input, "array")
     }
 }
 
-#[tactic(auto, using(node_traits::proofs::Others::other_stands))]
-impl<E: Reads<Expr<E>> + Drop> Parse for ExprAsync<E> {
-    ghost reads = { λ tokens x. ReadAs E.kind E.view tokens (exprs.Async x) };
+impl<E: Native> Parse for ExprAsync<E>
+where
+    E::Reader: Reads<Expr<E>>,
+{
+    ghost reads = { λ tokens x. E.Reader.reads tokens (exprs.Async x) };
 
-    ghost refuses = { NoneOrOther E.kind E.view exprs.Async };
+    ghost refuses = { NoneOrOther E.Reader.reads E.Reader.refuses exprs.Async };
 
     /// Reads an expression, and refuses all but an async block.
     fn parse(input: &mut ParseBuffer<'_>) -> Result<ExprAsync<E>, ParseFault> {
-        let mut ahead = input.fork();
-        match <E as Reads<Expr<E>>>::read(&mut ahead)? {
-            Expr::Async(form) => {
-                input.advance_to(ahead);
-                Ok(form)
-            }
-            other => {
-                drop(other);
-                Err(input.expected("async block"))
-            }
-        }
+        single::<Expr<E>, ExprAsync<E>, E::Reader>(input, "async block")
     }
 }
 
-#[tactic(auto, using(node_traits::proofs::Others::other_stands))]
-impl<E: Reads<Expr<E>> + Drop> Parse for ExprBlock<E> {
-    ghost reads = { λ tokens x. ReadAs E.kind E.view tokens (exprs.Block x) };
+impl<E: Native> Parse for ExprBlock<E>
+where
+    E::Reader: Reads<Expr<E>>,
+{
+    ghost reads = { λ tokens x. E.Reader.reads tokens (exprs.Block x) };
 
-    ghost refuses = { NoneOrOther E.kind E.view exprs.Block };
+    ghost refuses = { NoneOrOther E.Reader.reads E.Reader.refuses exprs.Block };
 
     /// Reads an expression, and refuses all but a block.
     fn parse(input: &mut ParseBuffer<'_>) -> Result<ExprBlock<E>, ParseFault> {
-        let mut ahead = input.fork();
-        match <E as Reads<Expr<E>>>::read(&mut ahead)? {
-            Expr::Block(form) => {
-                input.advance_to(ahead);
-                Ok(form)
-            }
-            other => {
-                drop(other);
-                Err(input.expected("block"))
-            }
-        }
+        single::<Expr<E>, ExprBlock<E>, E::Reader>(input, "block")
     }
 }
 
-#[tactic(auto, using(node_traits::proofs::Others::other_stands))]
-impl<E: Reads<Expr<E>> + Drop> Parse for ExprConst<E> {
-    ghost reads = { λ tokens x. ReadAs E.kind E.view tokens (exprs.Const x) };
+impl<E: Native> Parse for ExprConst<E>
+where
+    E::Reader: Reads<Expr<E>>,
+{
+    ghost reads = { λ tokens x. E.Reader.reads tokens (exprs.Const x) };
 
-    ghost refuses = { NoneOrOther E.kind E.view exprs.Const };
+    ghost refuses = { NoneOrOther E.Reader.reads E.Reader.refuses exprs.Const };
 
     /// Reads an expression, and refuses all but a const block.
     fn parse(input: &mut ParseBuffer<'_>) -> Result<ExprConst<E>, ParseFault> {
-        let mut ahead = input.fork();
-        match <E as Reads<Expr<E>>>::read(&mut ahead)? {
-            Expr::Const(form) => {
-                input.advance_to(ahead);
-                Ok(form)
-            }
-            other => {
-                drop(other);
-                Err(input.expected("const block"))
-            }
-        }
+        single::<Expr<E>, ExprConst<E>, E::Reader>(input, "const block")
     }
 }
 
-#[tactic(auto, using(node_traits::proofs::Others::other_stands))]
-impl<E: Reads<Expr<E>> + Drop> Parse for ExprContinue<E> {
-    ghost reads = { λ tokens x. ReadAs E.kind E.view tokens (exprs.Continue x) };
+impl<E: Native> Parse for ExprContinue<E>
+where
+    E::Reader: Reads<Expr<E>>,
+{
+    ghost reads = { λ tokens x. E.Reader.reads tokens (exprs.Continue x) };
 
-    ghost refuses = { NoneOrOther E.kind E.view exprs.Continue };
+    ghost refuses = { NoneOrOther E.Reader.reads E.Reader.refuses exprs.Continue };
 
     /// Reads an expression, and refuses all but `continue`.
     fn parse(input: &mut ParseBuffer<'_>) -> Result<ExprContinue<E>, ParseFault> {
-        let mut ahead = input.fork();
-        match <E as Reads<Expr<E>>>::read(&mut ahead)? {
-            Expr::Continue(form) => {
-                input.advance_to(ahead);
-                Ok(form)
-            }
-            other => {
-                drop(other);
-                Err(input.expected("`continue`"))
-            }
-        }
+        single::<Expr<E>, ExprContinue<E>, E::Reader>(input, "`continue`")
     }
 }
 
-#[tactic(auto, using(node_traits::proofs::Others::other_stands))]
-impl<E: Reads<Expr<E>> + Drop> Parse for ExprForLoop<E> {
-    ghost reads = { λ tokens x. ReadAs E.kind E.view tokens (exprs.ForLoop x) };
+impl<E: Native> Parse for ExprForLoop<E>
+where
+    E::Reader: Reads<Expr<E>>,
+{
+    ghost reads = { λ tokens x. E.Reader.reads tokens (exprs.ForLoop x) };
 
-    ghost refuses = { NoneOrOther E.kind E.view exprs.ForLoop };
+    ghost refuses = { NoneOrOther E.Reader.reads E.Reader.refuses exprs.ForLoop };
 
     /// Reads an expression, and refuses all but a `for` loop.
     fn parse(input: &mut ParseBuffer<'_>) -> Result<ExprForLoop<E>, ParseFault> {
-        let mut ahead = input.fork();
-        match <E as Reads<Expr<E>>>::read(&mut ahead)? {
-            Expr::ForLoop(form) => {
-                input.advance_to(ahead);
-                Ok(form)
-            }
-            other => {
-                drop(other);
-                Err(input.expected("`for` loop"))
-            }
-        }
+        single::<Expr<E>, ExprForLoop<E>, E::Reader>(input, "`for` loop")
     }
 }
 
-#[tactic(auto, using(node_traits::proofs::Others::other_stands))]
-impl<E: Reads<Expr<E>> + Drop> Parse for ExprIf<E> {
-    ghost reads = { λ tokens x. ReadAs E.kind E.view tokens (exprs.If x) };
+impl<E: Native> Parse for ExprIf<E>
+where
+    E::Reader: Reads<Expr<E>>,
+{
+    ghost reads = { λ tokens x. E.Reader.reads tokens (exprs.If x) };
 
-    ghost refuses = { NoneOrOther E.kind E.view exprs.If };
+    ghost refuses = { NoneOrOther E.Reader.reads E.Reader.refuses exprs.If };
 
     /// Reads an expression, and refuses all but `if`.
     fn parse(input: &mut ParseBuffer<'_>) -> Result<ExprIf<E>, ParseFault> {
-        let mut ahead = input.fork();
-        match <E as Reads<Expr<E>>>::read(&mut ahead)? {
-            Expr::If(form) => {
-                input.advance_to(ahead);
-                Ok(form)
-            }
-            other => {
-                drop(other);
-                Err(input.expected("`if`"))
-            }
-        }
+        single::<Expr<E>, ExprIf<E>, E::Reader>(input, "`if`")
     }
 }
 
-#[tactic(auto, using(node_traits::proofs::Others::other_stands))]
-impl<E: Reads<Expr<E>> + Drop> Parse for ExprInfer<E> {
-    ghost reads = { λ tokens x. ReadAs E.kind E.view tokens (exprs.Infer x) };
+impl<E: Native> Parse for ExprInfer<E>
+where
+    E::Reader: Reads<Expr<E>>,
+{
+    ghost reads = { λ tokens x. E.Reader.reads tokens (exprs.Infer x) };
 
-    ghost refuses = { NoneOrOther E.kind E.view exprs.Infer };
+    ghost refuses = { NoneOrOther E.Reader.reads E.Reader.refuses exprs.Infer };
 
     /// Reads an expression, and refuses all but `_`.
     fn parse(input: &mut ParseBuffer<'_>) -> Result<ExprInfer<E>, ParseFault> {
-        let mut ahead = input.fork();
-        match <E as Reads<Expr<E>>>::read(&mut ahead)? {
-            Expr::Infer(form) => {
-                input.advance_to(ahead);
-                Ok(form)
-            }
-            other => {
-                drop(other);
-                Err(input.expected("`_`"))
-            }
-        }
+        single::<Expr<E>, ExprInfer<E>, E::Reader>(input, "`_`")
     }
 }
 
-#[tactic(auto, using(node_traits::proofs::Others::other_stands))]
-impl<E: Reads<Expr<E>> + Drop> Parse for ExprLit<E> {
-    ghost reads = { λ tokens x. ReadAs E.kind E.view tokens (exprs.Lit x) };
+impl<E: Native> Parse for ExprLit<E>
+where
+    E::Reader: Reads<Expr<E>>,
+{
+    ghost reads = { λ tokens x. E.Reader.reads tokens (exprs.Lit x) };
 
-    ghost refuses = { NoneOrOther E.kind E.view exprs.Lit };
+    ghost refuses = { NoneOrOther E.Reader.reads E.Reader.refuses exprs.Lit };
 
     /// Reads an expression, and refuses all but a literal.
     fn parse(input: &mut ParseBuffer<'_>) -> Result<ExprLit<E>, ParseFault> {
-        let mut ahead = input.fork();
-        match <E as Reads<Expr<E>>>::read(&mut ahead)? {
-            Expr::Lit(form) => {
-                input.advance_to(ahead);
-                Ok(form)
-            }
-            other => {
-                drop(other);
-                Err(input.expected("literal"))
-            }
-        }
+        single::<Expr<E>, ExprLit<E>, E::Reader>(input, "literal")
     }
 }
 
-#[tactic(auto, using(node_traits::proofs::Others::other_stands))]
-impl<E: Reads<Expr<E>> + Drop> Parse for ExprLoop<E> {
-    ghost reads = { λ tokens x. ReadAs E.kind E.view tokens (exprs.Loop x) };
+impl<E: Native> Parse for ExprLoop<E>
+where
+    E::Reader: Reads<Expr<E>>,
+{
+    ghost reads = { λ tokens x. E.Reader.reads tokens (exprs.Loop x) };
 
-    ghost refuses = { NoneOrOther E.kind E.view exprs.Loop };
+    ghost refuses = { NoneOrOther E.Reader.reads E.Reader.refuses exprs.Loop };
 
     /// Reads an expression, and refuses all but `loop`.
     fn parse(input: &mut ParseBuffer<'_>) -> Result<ExprLoop<E>, ParseFault> {
-        let mut ahead = input.fork();
-        match <E as Reads<Expr<E>>>::read(&mut ahead)? {
-            Expr::Loop(form) => {
-                input.advance_to(ahead);
-                Ok(form)
-            }
-            other => {
-                drop(other);
-                Err(input.expected("`loop`"))
-            }
-        }
+        single::<Expr<E>, ExprLoop<E>, E::Reader>(input, "`loop`")
     }
 }
 
-#[tactic(auto, using(node_traits::proofs::Others::other_stands))]
-impl<E: Reads<Expr<E>> + Drop> Parse for ExprMacro<E> {
-    ghost reads = { λ tokens x. ReadAs E.kind E.view tokens (exprs.Macro x) };
+impl<E: Native> Parse for ExprMacro<E>
+where
+    E::Reader: Reads<Expr<E>>,
+{
+    ghost reads = { λ tokens x. E.Reader.reads tokens (exprs.Macro x) };
 
-    ghost refuses = { NoneOrOther E.kind E.view exprs.Macro };
+    ghost refuses = { NoneOrOther E.Reader.reads E.Reader.refuses exprs.Macro };
 
     /// Reads an expression, and refuses all but a call of a macro.
     fn parse(input: &mut ParseBuffer<'_>) -> Result<ExprMacro<E>, ParseFault> {
-        let mut ahead = input.fork();
-        match <E as Reads<Expr<E>>>::read(&mut ahead)? {
-            Expr::Macro(form) => {
-                input.advance_to(ahead);
-                Ok(form)
-            }
-            other => {
-                drop(other);
-                Err(input.expected("macro call"))
-            }
-        }
+        single::<Expr<E>, ExprMacro<E>, E::Reader>(input, "macro call")
     }
 }
 
-#[tactic(auto, using(node_traits::proofs::Others::other_stands))]
-impl<E: Reads<Expr<E>> + Drop> Parse for ExprMatch<E> {
-    ghost reads = { λ tokens x. ReadAs E.kind E.view tokens (exprs.Match x) };
+impl<E: Native> Parse for ExprMatch<E>
+where
+    E::Reader: Reads<Expr<E>>,
+{
+    ghost reads = { λ tokens x. E.Reader.reads tokens (exprs.Match x) };
 
-    ghost refuses = { NoneOrOther E.kind E.view exprs.Match };
+    ghost refuses = { NoneOrOther E.Reader.reads E.Reader.refuses exprs.Match };
 
     /// Reads an expression, and refuses all but `match`.
     fn parse(input: &mut ParseBuffer<'_>) -> Result<ExprMatch<E>, ParseFault> {
-        let mut ahead = input.fork();
-        match <E as Reads<Expr<E>>>::read(&mut ahead)? {
-            Expr::Match(form) => {
-                input.advance_to(ahead);
-                Ok(form)
-            }
-            other => {
-                drop(other);
-                Err(input.expected("`match`"))
-            }
-        }
+        single::<Expr<E>, ExprMatch<E>, E::Reader>(input, "`match`")
     }
 }
 
-#[tactic(auto, using(node_traits::proofs::Others::other_stands))]
-impl<E: Reads<Expr<E>> + Drop> Parse for ExprParen<E> {
-    ghost reads = { λ tokens x. ReadAs E.kind E.view tokens (exprs.Paren x) };
+impl<E: Native> Parse for ExprParen<E>
+where
+    E::Reader: Reads<Expr<E>>,
+{
+    ghost reads = { λ tokens x. E.Reader.reads tokens (exprs.Paren x) };
 
-    ghost refuses = { NoneOrOther E.kind E.view exprs.Paren };
+    ghost refuses = { NoneOrOther E.Reader.reads E.Reader.refuses exprs.Paren };
 
     /// Reads an expression, and refuses all but one in parentheses.
     fn parse(input: &mut ParseBuffer<'_>) -> Result<ExprParen<E>, ParseFault> {
-        let mut ahead = input.fork();
-        match <E as Reads<Expr<E>>>::read(&mut ahead)? {
-            Expr::Paren(form) => {
-                input.advance_to(ahead);
-                Ok(form)
-            }
-            other => {
-                drop(other);
-                Err(input.expected("expression in parentheses"))
-            }
-        }
+        single::<Expr<E>, ExprParen<E>, E::Reader>(input, "expression in parentheses")
     }
 }
 
-#[tactic(auto, using(node_traits::proofs::Others::other_stands))]
-impl<E: Reads<Expr<E>> + Drop> Parse for ExprPath<E> {
-    ghost reads = { λ tokens x. ReadAs E.kind E.view tokens (exprs.Path x) };
+impl<E: Native> Parse for ExprPath<E>
+where
+    E::Reader: Reads<Expr<E>>,
+{
+    ghost reads = { λ tokens x. E.Reader.reads tokens (exprs.Path x) };
 
-    ghost refuses = { NoneOrOther E.kind E.view exprs.Path };
+    ghost refuses = { NoneOrOther E.Reader.reads E.Reader.refuses exprs.Path };
 
     /// Reads an expression, and refuses all but a path.
     fn parse(input: &mut ParseBuffer<'_>) -> Result<ExprPath<E>, ParseFault> {
-        let mut ahead = input.fork();
-        match <E as Reads<Expr<E>>>::read(&mut ahead)? {
-            Expr::Path(form) => {
-                input.advance_to(ahead);
-                Ok(form)
-            }
-            other => {
-                drop(other);
-                Err(input.expected("path"))
-            }
-        }
+        single::<Expr<E>, ExprPath<E>, E::Reader>(input, "path")
     }
 }
 
-#[tactic(auto, using(node_traits::proofs::Others::other_stands))]
-impl<E: Reads<Expr<E>> + Drop> Parse for ExprRepeat<E> {
-    ghost reads = { λ tokens x. ReadAs E.kind E.view tokens (exprs.Repeat x) };
+impl<E: Native> Parse for ExprRepeat<E>
+where
+    E::Reader: Reads<Expr<E>>,
+{
+    ghost reads = { λ tokens x. E.Reader.reads tokens (exprs.Repeat x) };
 
-    ghost refuses = { NoneOrOther E.kind E.view exprs.Repeat };
+    ghost refuses = { NoneOrOther E.Reader.reads E.Reader.refuses exprs.Repeat };
 
     /// Reads an expression, and refuses all but an array of one value.
     fn parse(input: &mut ParseBuffer<'_>) -> Result<ExprRepeat<E>, ParseFault> {
-        let mut ahead = input.fork();
-        match <E as Reads<Expr<E>>>::read(&mut ahead)? {
-            Expr::Repeat(form) => {
-                input.advance_to(ahead);
-                Ok(form)
-            }
-            other => {
-                drop(other);
-                Err(input.expected("array of one value"))
-            }
-        }
+        single::<Expr<E>, ExprRepeat<E>, E::Reader>(input, "array of one value")
     }
 }
 
-#[tactic(auto, using(node_traits::proofs::Others::other_stands))]
-impl<E: Reads<Expr<E>> + Drop> Parse for ExprTryBlock<E> {
-    ghost reads = { λ tokens x. ReadAs E.kind E.view tokens (exprs.TryBlock x) };
+impl<E: Native> Parse for ExprTryBlock<E>
+where
+    E::Reader: Reads<Expr<E>>,
+{
+    ghost reads = { λ tokens x. E.Reader.reads tokens (exprs.TryBlock x) };
 
-    ghost refuses = { NoneOrOther E.kind E.view exprs.TryBlock };
+    ghost refuses = { NoneOrOther E.Reader.reads E.Reader.refuses exprs.TryBlock };
 
     /// Reads an expression, and refuses all but a try block.
     fn parse(input: &mut ParseBuffer<'_>) -> Result<ExprTryBlock<E>, ParseFault> {
-        let mut ahead = input.fork();
-        match <E as Reads<Expr<E>>>::read(&mut ahead)? {
-            Expr::TryBlock(form) => {
-                input.advance_to(ahead);
-                Ok(form)
-            }
-            other => {
-                drop(other);
-                Err(input.expected("try block"))
-            }
-        }
+        single::<Expr<E>, ExprTryBlock<E>, E::Reader>(input, "try block")
     }
 }
 
-#[tactic(auto, using(node_traits::proofs::Others::other_stands))]
-impl<E: Reads<Expr<E>> + Drop> Parse for ExprTuple<E> {
-    ghost reads = { λ tokens x. ReadAs E.kind E.view tokens (exprs.Tuple x) };
+impl<E: Native> Parse for ExprTuple<E>
+where
+    E::Reader: Reads<Expr<E>>,
+{
+    ghost reads = { λ tokens x. E.Reader.reads tokens (exprs.Tuple x) };
 
-    ghost refuses = { NoneOrOther E.kind E.view exprs.Tuple };
+    ghost refuses = { NoneOrOther E.Reader.reads E.Reader.refuses exprs.Tuple };
 
     /// Reads an expression, and refuses all but a tuple.
     fn parse(input: &mut ParseBuffer<'_>) -> Result<ExprTuple<E>, ParseFault> {
-        let mut ahead = input.fork();
-        match <E as Reads<Expr<E>>>::read(&mut ahead)? {
-            Expr::Tuple(form) => {
-                input.advance_to(ahead);
-                Ok(form)
-            }
-            other => {
-                drop(other);
-                Err(input.expected("tuple"))
-            }
-        }
+        single::<Expr<E>, ExprTuple<E>, E::Reader>(input, "tuple")
     }
 }
 
-#[tactic(auto, using(node_traits::proofs::Others::other_stands))]
-impl<E: Reads<Expr<E>> + Drop> Parse for ExprUnsafe<E> {
-    ghost reads = { λ tokens x. ReadAs E.kind E.view tokens (exprs.Unsafe x) };
+impl<E: Native> Parse for ExprUnsafe<E>
+where
+    E::Reader: Reads<Expr<E>>,
+{
+    ghost reads = { λ tokens x. E.Reader.reads tokens (exprs.Unsafe x) };
 
-    ghost refuses = { NoneOrOther E.kind E.view exprs.Unsafe };
+    ghost refuses = { NoneOrOther E.Reader.reads E.Reader.refuses exprs.Unsafe };
 
     /// Reads an expression, and refuses all but an unsafe block.
     fn parse(input: &mut ParseBuffer<'_>) -> Result<ExprUnsafe<E>, ParseFault> {
-        let mut ahead = input.fork();
-        match <E as Reads<Expr<E>>>::read(&mut ahead)? {
-            Expr::Unsafe(form) => {
-                input.advance_to(ahead);
-                Ok(form)
-            }
-            other => {
-                drop(other);
-                Err(input.expected("unsafe block"))
-            }
-        }
+        single::<Expr<E>, ExprUnsafe<E>, E::Reader>(input, "unsafe block")
     }
 }
 
-#[tactic(auto, using(node_traits::proofs::Others::other_stands))]
-impl<E: Reads<Expr<E>> + Drop> Parse for ExprWhile<E> {
-    ghost reads = { λ tokens x. ReadAs E.kind E.view tokens (exprs.While x) };
+impl<E: Native> Parse for ExprWhile<E>
+where
+    E::Reader: Reads<Expr<E>>,
+{
+    ghost reads = { λ tokens x. E.Reader.reads tokens (exprs.While x) };
 
-    ghost refuses = { NoneOrOther E.kind E.view exprs.While };
+    ghost refuses = { NoneOrOther E.Reader.reads E.Reader.refuses exprs.While };
 
     /// Reads an expression, and refuses all but a `while` loop.
     fn parse(input: &mut ParseBuffer<'_>) -> Result<ExprWhile<E>, ParseFault> {
-        let mut ahead = input.fork();
-        match <E as Reads<Expr<E>>>::read(&mut ahead)? {
-            Expr::While(form) => {
-                input.advance_to(ahead);
-                Ok(form)
-            }
-            other => {
-                drop(other);
-                Err(input.expected("`while` loop"))
-            }
-        }
+        single::<Expr<E>, ExprWhile<E>, E::Reader>(input, "`while` loop")
     }
 }

@@ -1,7 +1,7 @@
 //! Expressions with operands, each read as a single form.
 
 ghost use Rattle.node_expressions.specs.declared.expr.Expr.TheVariants as exprs;
-ghost use Rattle.node_traits.specs.Reads.{NoneOrOther, ReadAs};
+ghost use Rattle.node_traits.specs.Reads.{NoneOrOther};
 
 use crate::atom::ExprStruct;
 use crate::branch::ExprLet;
@@ -12,424 +12,272 @@ use crate::jump::{ExprBreak, ExprReturn, ExprYield};
 use crate::operator::{
     ExprAssign, ExprBinary, ExprCast, ExprRange, ExprRawAddr, ExprReference, ExprUnary,
 };
-use node_traits::Reads;
+use node_traits::{Native, Reads, single};
 use syn_error::ParseFault;
 use syn_input::{Parse, ParseBuffer};
 
-#[tactic(auto, using(node_traits::proofs::Others::other_stands))]
-impl<E: Reads<Expr<E>> + Drop> Parse for ExprAssign<E> {
-    ghost reads = { λ tokens x. ReadAs E.kind E.view tokens (exprs.Assign x) };
+impl<E: Native> Parse for ExprAssign<E>
+where
+    E::Reader: Reads<Expr<E>>,
+{
+    ghost reads = { λ tokens x. E.Reader.reads tokens (exprs.Assign x) };
 
-    ghost refuses = { NoneOrOther E.kind E.view exprs.Assign };
+    ghost refuses = { NoneOrOther E.Reader.reads E.Reader.refuses exprs.Assign };
 
     /// Reads an expression, and refuses all but an assignment.
     fn parse(input: &mut ParseBuffer<'_>) -> Result<ExprAssign<E>, ParseFault> {
-        let mut ahead = input.fork();
-        match <E as Reads<Expr<E>>>::read(&mut ahead)? {
-            Expr::Assign(form) => {
-                input.advance_to(ahead);
-                Ok(form)
-            }
-            other => {
-                drop(other);
-                Err(input.expected("assignment"))
-            }
-        }
+        single::<Expr<E>, ExprAssign<E>, E::Reader>(input, "assignment")
     }
 }
 
-#[tactic(auto, using(node_traits::proofs::Others::other_stands))]
-impl<E: Reads<Expr<E>> + Drop> Parse for ExprAwait<E> {
-    ghost reads = { λ tokens x. ReadAs E.kind E.view tokens (exprs.Await x) };
+impl<E: Native> Parse for ExprAwait<E>
+where
+    E::Reader: Reads<Expr<E>>,
+{
+    ghost reads = { λ tokens x. E.Reader.reads tokens (exprs.Await x) };
 
-    ghost refuses = { NoneOrOther E.kind E.view exprs.Await };
+    ghost refuses = { NoneOrOther E.Reader.reads E.Reader.refuses exprs.Await };
 
     /// Reads an expression, and refuses all but `.await`.
     fn parse(input: &mut ParseBuffer<'_>) -> Result<ExprAwait<E>, ParseFault> {
-        let mut ahead = input.fork();
-        match <E as Reads<Expr<E>>>::read(&mut ahead)? {
-            Expr::Await(form) => {
-                input.advance_to(ahead);
-                Ok(form)
-            }
-            other => {
-                drop(other);
-                Err(input.expected("`.await`"))
-            }
-        }
+        single::<Expr<E>, ExprAwait<E>, E::Reader>(input, "`.await`")
     }
 }
 
-#[tactic(auto, using(node_traits::proofs::Others::other_stands))]
-impl<E: Reads<Expr<E>> + Drop> Parse for ExprBinary<E> {
-    ghost reads = { λ tokens x. ReadAs E.kind E.view tokens (exprs.Binary x) };
+impl<E: Native> Parse for ExprBinary<E>
+where
+    E::Reader: Reads<Expr<E>>,
+{
+    ghost reads = { λ tokens x. E.Reader.reads tokens (exprs.Binary x) };
 
-    ghost refuses = { NoneOrOther E.kind E.view exprs.Binary };
+    ghost refuses = { NoneOrOther E.Reader.reads E.Reader.refuses exprs.Binary };
 
     /// Reads an expression, and refuses all but an operator between two operands.
     fn parse(input: &mut ParseBuffer<'_>) -> Result<ExprBinary<E>, ParseFault> {
-        let mut ahead = input.fork();
-        match <E as Reads<Expr<E>>>::read(&mut ahead)? {
-            Expr::Binary(form) => {
-                input.advance_to(ahead);
-                Ok(form)
-            }
-            other => {
-                drop(other);
-                Err(input.expected("binary operation"))
-            }
-        }
+        single::<Expr<E>, ExprBinary<E>, E::Reader>(input, "binary operation")
     }
 }
 
-#[tactic(auto, using(node_traits::proofs::Others::other_stands))]
-impl<E: Reads<Expr<E>> + Drop> Parse for ExprBreak<E> {
-    ghost reads = { λ tokens x. ReadAs E.kind E.view tokens (exprs.Break x) };
+impl<E: Native> Parse for ExprBreak<E>
+where
+    E::Reader: Reads<Expr<E>>,
+{
+    ghost reads = { λ tokens x. E.Reader.reads tokens (exprs.Break x) };
 
-    ghost refuses = { NoneOrOther E.kind E.view exprs.Break };
+    ghost refuses = { NoneOrOther E.Reader.reads E.Reader.refuses exprs.Break };
 
     /// Reads an expression, and refuses all but `break`.
     fn parse(input: &mut ParseBuffer<'_>) -> Result<ExprBreak<E>, ParseFault> {
-        let mut ahead = input.fork();
-        match <E as Reads<Expr<E>>>::read(&mut ahead)? {
-            Expr::Break(form) => {
-                input.advance_to(ahead);
-                Ok(form)
-            }
-            other => {
-                drop(other);
-                Err(input.expected("`break`"))
-            }
-        }
+        single::<Expr<E>, ExprBreak<E>, E::Reader>(input, "`break`")
     }
 }
 
-#[tactic(auto, using(node_traits::proofs::Others::other_stands))]
-impl<E: Reads<Expr<E>> + Drop> Parse for ExprCall<E> {
-    ghost reads = { λ tokens x. ReadAs E.kind E.view tokens (exprs.Call x) };
+impl<E: Native> Parse for ExprCall<E>
+where
+    E::Reader: Reads<Expr<E>>,
+{
+    ghost reads = { λ tokens x. E.Reader.reads tokens (exprs.Call x) };
 
-    ghost refuses = { NoneOrOther E.kind E.view exprs.Call };
+    ghost refuses = { NoneOrOther E.Reader.reads E.Reader.refuses exprs.Call };
 
     /// Reads an expression, and refuses all but a call of a function.
     fn parse(input: &mut ParseBuffer<'_>) -> Result<ExprCall<E>, ParseFault> {
-        let mut ahead = input.fork();
-        match <E as Reads<Expr<E>>>::read(&mut ahead)? {
-            Expr::Call(form) => {
-                input.advance_to(ahead);
-                Ok(form)
-            }
-            other => {
-                drop(other);
-                Err(input.expected("function call"))
-            }
-        }
+        single::<Expr<E>, ExprCall<E>, E::Reader>(input, "function call")
     }
 }
 
-#[tactic(auto, using(node_traits::proofs::Others::other_stands))]
-impl<E: Reads<Expr<E>> + Drop> Parse for ExprCast<E> {
-    ghost reads = { λ tokens x. ReadAs E.kind E.view tokens (exprs.Cast x) };
+impl<E: Native> Parse for ExprCast<E>
+where
+    E::Reader: Reads<Expr<E>>,
+{
+    ghost reads = { λ tokens x. E.Reader.reads tokens (exprs.Cast x) };
 
-    ghost refuses = { NoneOrOther E.kind E.view exprs.Cast };
+    ghost refuses = { NoneOrOther E.Reader.reads E.Reader.refuses exprs.Cast };
 
     /// Reads an expression, and refuses all but a cast.
     fn parse(input: &mut ParseBuffer<'_>) -> Result<ExprCast<E>, ParseFault> {
-        let mut ahead = input.fork();
-        match <E as Reads<Expr<E>>>::read(&mut ahead)? {
-            Expr::Cast(form) => {
-                input.advance_to(ahead);
-                Ok(form)
-            }
-            other => {
-                drop(other);
-                Err(input.expected("cast"))
-            }
-        }
+        single::<Expr<E>, ExprCast<E>, E::Reader>(input, "cast")
     }
 }
 
-#[tactic(auto, using(node_traits::proofs::Others::other_stands))]
-impl<E: Reads<Expr<E>> + Drop> Parse for ExprClosure<E> {
-    ghost reads = { λ tokens x. ReadAs E.kind E.view tokens (exprs.Closure x) };
+impl<E: Native> Parse for ExprClosure<E>
+where
+    E::Reader: Reads<Expr<E>>,
+{
+    ghost reads = { λ tokens x. E.Reader.reads tokens (exprs.Closure x) };
 
-    ghost refuses = { NoneOrOther E.kind E.view exprs.Closure };
+    ghost refuses = { NoneOrOther E.Reader.reads E.Reader.refuses exprs.Closure };
 
     /// Reads an expression, and refuses all but a closure.
     fn parse(input: &mut ParseBuffer<'_>) -> Result<ExprClosure<E>, ParseFault> {
-        let mut ahead = input.fork();
-        match <E as Reads<Expr<E>>>::read(&mut ahead)? {
-            Expr::Closure(form) => {
-                input.advance_to(ahead);
-                Ok(form)
-            }
-            other => {
-                drop(other);
-                Err(input.expected("closure"))
-            }
-        }
+        single::<Expr<E>, ExprClosure<E>, E::Reader>(input, "closure")
     }
 }
 
-#[tactic(auto, using(node_traits::proofs::Others::other_stands))]
-impl<E: Reads<Expr<E>> + Drop> Parse for ExprField<E> {
-    ghost reads = { λ tokens x. ReadAs E.kind E.view tokens (exprs.Field x) };
+impl<E: Native> Parse for ExprField<E>
+where
+    E::Reader: Reads<Expr<E>>,
+{
+    ghost reads = { λ tokens x. E.Reader.reads tokens (exprs.Field x) };
 
-    ghost refuses = { NoneOrOther E.kind E.view exprs.Field };
+    ghost refuses = { NoneOrOther E.Reader.reads E.Reader.refuses exprs.Field };
 
     /// Reads an expression, and refuses all but a field.
     fn parse(input: &mut ParseBuffer<'_>) -> Result<ExprField<E>, ParseFault> {
-        let mut ahead = input.fork();
-        match <E as Reads<Expr<E>>>::read(&mut ahead)? {
-            Expr::Field(form) => {
-                input.advance_to(ahead);
-                Ok(form)
-            }
-            other => {
-                drop(other);
-                Err(input.expected("field access"))
-            }
-        }
+        single::<Expr<E>, ExprField<E>, E::Reader>(input, "field access")
     }
 }
 
-#[tactic(auto, using(node_traits::proofs::Others::other_stands))]
-impl<E: Reads<Expr<E>> + Drop> Parse for ExprIndex<E> {
-    ghost reads = { λ tokens x. ReadAs E.kind E.view tokens (exprs.Index x) };
+impl<E: Native> Parse for ExprIndex<E>
+where
+    E::Reader: Reads<Expr<E>>,
+{
+    ghost reads = { λ tokens x. E.Reader.reads tokens (exprs.Index x) };
 
-    ghost refuses = { NoneOrOther E.kind E.view exprs.Index };
+    ghost refuses = { NoneOrOther E.Reader.reads E.Reader.refuses exprs.Index };
 
     /// Reads an expression, and refuses all but an index in brackets.
     fn parse(input: &mut ParseBuffer<'_>) -> Result<ExprIndex<E>, ParseFault> {
-        let mut ahead = input.fork();
-        match <E as Reads<Expr<E>>>::read(&mut ahead)? {
-            Expr::Index(form) => {
-                input.advance_to(ahead);
-                Ok(form)
-            }
-            other => {
-                drop(other);
-                Err(input.expected("index in brackets"))
-            }
-        }
+        single::<Expr<E>, ExprIndex<E>, E::Reader>(input, "index in brackets")
     }
 }
 
-#[tactic(auto, using(node_traits::proofs::Others::other_stands))]
-impl<E: Reads<Expr<E>> + Drop> Parse for ExprLet<E> {
-    ghost reads = { λ tokens x. ReadAs E.kind E.view tokens (exprs.Let x) };
+impl<E: Native> Parse for ExprLet<E>
+where
+    E::Reader: Reads<Expr<E>>,
+{
+    ghost reads = { λ tokens x. E.Reader.reads tokens (exprs.Let x) };
 
-    ghost refuses = { NoneOrOther E.kind E.view exprs.Let };
+    ghost refuses = { NoneOrOther E.Reader.reads E.Reader.refuses exprs.Let };
 
     /// Reads an expression, and refuses all but `let`.
     fn parse(input: &mut ParseBuffer<'_>) -> Result<ExprLet<E>, ParseFault> {
-        let mut ahead = input.fork();
-        match <E as Reads<Expr<E>>>::read(&mut ahead)? {
-            Expr::Let(form) => {
-                input.advance_to(ahead);
-                Ok(form)
-            }
-            other => {
-                drop(other);
-                Err(input.expected("`let`"))
-            }
-        }
+        single::<Expr<E>, ExprLet<E>, E::Reader>(input, "`let`")
     }
 }
 
-#[tactic(auto, using(node_traits::proofs::Others::other_stands))]
-impl<E: Reads<Expr<E>> + Drop> Parse for ExprMethodCall<E> {
-    ghost reads = { λ tokens x. ReadAs E.kind E.view tokens (exprs.MethodCall x) };
+impl<E: Native> Parse for ExprMethodCall<E>
+where
+    E::Reader: Reads<Expr<E>>,
+{
+    ghost reads = { λ tokens x. E.Reader.reads tokens (exprs.MethodCall x) };
 
-    ghost refuses = { NoneOrOther E.kind E.view exprs.MethodCall };
+    ghost refuses = { NoneOrOther E.Reader.reads E.Reader.refuses exprs.MethodCall };
 
     /// Reads an expression, and refuses all but a call of a method.
     fn parse(input: &mut ParseBuffer<'_>) -> Result<ExprMethodCall<E>, ParseFault> {
-        let mut ahead = input.fork();
-        match <E as Reads<Expr<E>>>::read(&mut ahead)? {
-            Expr::MethodCall(form) => {
-                input.advance_to(ahead);
-                Ok(form)
-            }
-            other => {
-                drop(other);
-                Err(input.expected("method call"))
-            }
-        }
+        single::<Expr<E>, ExprMethodCall<E>, E::Reader>(input, "method call")
     }
 }
 
-#[tactic(auto, using(node_traits::proofs::Others::other_stands))]
-impl<E: Reads<Expr<E>> + Drop> Parse for ExprRange<E> {
-    ghost reads = { λ tokens x. ReadAs E.kind E.view tokens (exprs.Range x) };
+impl<E: Native> Parse for ExprRange<E>
+where
+    E::Reader: Reads<Expr<E>>,
+{
+    ghost reads = { λ tokens x. E.Reader.reads tokens (exprs.Range x) };
 
-    ghost refuses = { NoneOrOther E.kind E.view exprs.Range };
+    ghost refuses = { NoneOrOther E.Reader.reads E.Reader.refuses exprs.Range };
 
     /// Reads an expression, and refuses all but a range.
     fn parse(input: &mut ParseBuffer<'_>) -> Result<ExprRange<E>, ParseFault> {
-        let mut ahead = input.fork();
-        match <E as Reads<Expr<E>>>::read(&mut ahead)? {
-            Expr::Range(form) => {
-                input.advance_to(ahead);
-                Ok(form)
-            }
-            other => {
-                drop(other);
-                Err(input.expected("range"))
-            }
-        }
+        single::<Expr<E>, ExprRange<E>, E::Reader>(input, "range")
     }
 }
 
-#[tactic(auto, using(node_traits::proofs::Others::other_stands))]
-impl<E: Reads<Expr<E>> + Drop> Parse for ExprRawAddr<E> {
-    ghost reads = { λ tokens x. ReadAs E.kind E.view tokens (exprs.RawAddr x) };
+impl<E: Native> Parse for ExprRawAddr<E>
+where
+    E::Reader: Reads<Expr<E>>,
+{
+    ghost reads = { λ tokens x. E.Reader.reads tokens (exprs.RawAddr x) };
 
-    ghost refuses = { NoneOrOther E.kind E.view exprs.RawAddr };
+    ghost refuses = { NoneOrOther E.Reader.reads E.Reader.refuses exprs.RawAddr };
 
     /// Reads an expression, and refuses all but a raw address.
     fn parse(input: &mut ParseBuffer<'_>) -> Result<ExprRawAddr<E>, ParseFault> {
-        let mut ahead = input.fork();
-        match <E as Reads<Expr<E>>>::read(&mut ahead)? {
-            Expr::RawAddr(form) => {
-                input.advance_to(ahead);
-                Ok(form)
-            }
-            other => {
-                drop(other);
-                Err(input.expected("raw address"))
-            }
-        }
+        single::<Expr<E>, ExprRawAddr<E>, E::Reader>(input, "raw address")
     }
 }
 
-#[tactic(auto, using(node_traits::proofs::Others::other_stands))]
-impl<E: Reads<Expr<E>> + Drop> Parse for ExprReference<E> {
-    ghost reads = { λ tokens x. ReadAs E.kind E.view tokens (exprs.Reference x) };
+impl<E: Native> Parse for ExprReference<E>
+where
+    E::Reader: Reads<Expr<E>>,
+{
+    ghost reads = { λ tokens x. E.Reader.reads tokens (exprs.Reference x) };
 
-    ghost refuses = { NoneOrOther E.kind E.view exprs.Reference };
+    ghost refuses = { NoneOrOther E.Reader.reads E.Reader.refuses exprs.Reference };
 
     /// Reads an expression, and refuses all but a reference.
     fn parse(input: &mut ParseBuffer<'_>) -> Result<ExprReference<E>, ParseFault> {
-        let mut ahead = input.fork();
-        match <E as Reads<Expr<E>>>::read(&mut ahead)? {
-            Expr::Reference(form) => {
-                input.advance_to(ahead);
-                Ok(form)
-            }
-            other => {
-                drop(other);
-                Err(input.expected("reference"))
-            }
-        }
+        single::<Expr<E>, ExprReference<E>, E::Reader>(input, "reference")
     }
 }
 
-#[tactic(auto, using(node_traits::proofs::Others::other_stands))]
-impl<E: Reads<Expr<E>> + Drop> Parse for ExprReturn<E> {
-    ghost reads = { λ tokens x. ReadAs E.kind E.view tokens (exprs.Return x) };
+impl<E: Native> Parse for ExprReturn<E>
+where
+    E::Reader: Reads<Expr<E>>,
+{
+    ghost reads = { λ tokens x. E.Reader.reads tokens (exprs.Return x) };
 
-    ghost refuses = { NoneOrOther E.kind E.view exprs.Return };
+    ghost refuses = { NoneOrOther E.Reader.reads E.Reader.refuses exprs.Return };
 
     /// Reads an expression, and refuses all but `return`.
     fn parse(input: &mut ParseBuffer<'_>) -> Result<ExprReturn<E>, ParseFault> {
-        let mut ahead = input.fork();
-        match <E as Reads<Expr<E>>>::read(&mut ahead)? {
-            Expr::Return(form) => {
-                input.advance_to(ahead);
-                Ok(form)
-            }
-            other => {
-                drop(other);
-                Err(input.expected("`return`"))
-            }
-        }
+        single::<Expr<E>, ExprReturn<E>, E::Reader>(input, "`return`")
     }
 }
 
-#[tactic(auto, using(node_traits::proofs::Others::other_stands))]
-impl<E: Reads<Expr<E>> + Drop> Parse for ExprStruct<E> {
-    ghost reads = { λ tokens x. ReadAs E.kind E.view tokens (exprs.Struct x) };
+impl<E: Native> Parse for ExprStruct<E>
+where
+    E::Reader: Reads<Expr<E>>,
+{
+    ghost reads = { λ tokens x. E.Reader.reads tokens (exprs.Struct x) };
 
-    ghost refuses = { NoneOrOther E.kind E.view exprs.Struct };
+    ghost refuses = { NoneOrOther E.Reader.reads E.Reader.refuses exprs.Struct };
 
     /// Reads an expression, and refuses all but a struct.
     fn parse(input: &mut ParseBuffer<'_>) -> Result<ExprStruct<E>, ParseFault> {
-        let mut ahead = input.fork();
-        match <E as Reads<Expr<E>>>::read(&mut ahead)? {
-            Expr::Struct(form) => {
-                input.advance_to(ahead);
-                Ok(form)
-            }
-            other => {
-                drop(other);
-                Err(input.expected("struct"))
-            }
-        }
+        single::<Expr<E>, ExprStruct<E>, E::Reader>(input, "struct")
     }
 }
 
-#[tactic(auto, using(node_traits::proofs::Others::other_stands))]
-impl<E: Reads<Expr<E>> + Drop> Parse for ExprTry<E> {
-    ghost reads = { λ tokens x. ReadAs E.kind E.view tokens (exprs.Try x) };
+impl<E: Native> Parse for ExprTry<E>
+where
+    E::Reader: Reads<Expr<E>>,
+{
+    ghost reads = { λ tokens x. E.Reader.reads tokens (exprs.Try x) };
 
-    ghost refuses = { NoneOrOther E.kind E.view exprs.Try };
+    ghost refuses = { NoneOrOther E.Reader.reads E.Reader.refuses exprs.Try };
 
     /// Reads an expression, and refuses all but `?`.
     fn parse(input: &mut ParseBuffer<'_>) -> Result<ExprTry<E>, ParseFault> {
-        let mut ahead = input.fork();
-        match <E as Reads<Expr<E>>>::read(&mut ahead)? {
-            Expr::Try(form) => {
-                input.advance_to(ahead);
-                Ok(form)
-            }
-            other => {
-                drop(other);
-                Err(input.expected("`?`"))
-            }
-        }
+        single::<Expr<E>, ExprTry<E>, E::Reader>(input, "`?`")
     }
 }
 
-#[tactic(auto, using(node_traits::proofs::Others::other_stands))]
-impl<E: Reads<Expr<E>> + Drop> Parse for ExprUnary<E> {
-    ghost reads = { λ tokens x. ReadAs E.kind E.view tokens (exprs.Unary x) };
+impl<E: Native> Parse for ExprUnary<E>
+where
+    E::Reader: Reads<Expr<E>>,
+{
+    ghost reads = { λ tokens x. E.Reader.reads tokens (exprs.Unary x) };
 
-    ghost refuses = { NoneOrOther E.kind E.view exprs.Unary };
+    ghost refuses = { NoneOrOther E.Reader.reads E.Reader.refuses exprs.Unary };
 
     /// Reads an expression, and refuses all but an operator in front of an operand.
     fn parse(input: &mut ParseBuffer<'_>) -> Result<ExprUnary<E>, ParseFault> {
-        let mut ahead = input.fork();
-        match <E as Reads<Expr<E>>>::read(&mut ahead)? {
-            Expr::Unary(form) => {
-                input.advance_to(ahead);
-                Ok(form)
-            }
-            other => {
-                drop(other);
-                Err(input.expected("unary operation"))
-            }
-        }
+        single::<Expr<E>, ExprUnary<E>, E::Reader>(input, "unary operation")
     }
 }
 
-#[tactic(auto, using(node_traits::proofs::Others::other_stands))]
-impl<E: Reads<Expr<E>> + Drop> Parse for ExprYield<E> {
-    ghost reads = { λ tokens x. ReadAs E.kind E.view tokens (exprs.Yield x) };
+impl<E: Native> Parse for ExprYield<E>
+where
+    E::Reader: Reads<Expr<E>>,
+{
+    ghost reads = { λ tokens x. E.Reader.reads tokens (exprs.Yield x) };
 
-    ghost refuses = { NoneOrOther E.kind E.view exprs.Yield };
+    ghost refuses = { NoneOrOther E.Reader.reads E.Reader.refuses exprs.Yield };
 
     /// Reads an expression, and refuses all but `yield`.
     fn parse(input: &mut ParseBuffer<'_>) -> Result<ExprYield<E>, ParseFault> {
-        let mut ahead = input.fork();
-        match <E as Reads<Expr<E>>>::read(&mut ahead)? {
-            Expr::Yield(form) => {
-                input.advance_to(ahead);
-                Ok(form)
-            }
-            other => {
-                drop(other);
-                Err(input.expected("`yield`"))
-            }
-        }
+        single::<Expr<E>, ExprYield<E>, E::Reader>(input, "`yield`")
     }
 }
