@@ -24,11 +24,12 @@ fn put_list(
         ≡ tokens.old ++ listed_tokens use_tokens (values list.now) (separators list.now)) }
     ensures keeps { Keeps tokens.old tokens.new }
 {
-    let commas = list.separators();
-    for (index, tree) in list.as_slice().iter().enumerate() {
+    let mut commas = list.separators();
+    for tree in list.as_slice() {
         put_tree(tree, tokens)?;
-        if let Some(comma) = commas.get(index) {
+        if let Some((comma, others)) = commas.split_first() {
             comma.to_tokens(tokens)?;
+            commas = others;
         }
     }
     Ok(())
@@ -36,6 +37,7 @@ fn put_list(
 
 // Adds the tokens of imports in braces.
 #[cycle(importing)]
+#[tactic(auto, using(syn_error::proofs::Fronts::keeps_same))]
 fn put_group(node: &UseGroup, tokens: &mut TokenStream) -> Result<(), AllocError>
     ensures put { OnOk result (tokens.new ≡ tokens.old ++ group_tokens node.now) }
     ensures keeps { Keeps tokens.old tokens.new }
@@ -59,6 +61,7 @@ fn put_path(node: &UsePath, tokens: &mut TokenStream) -> Result<(), AllocError>
 
 // Adds the tokens of an import.
 #[cycle(importing)]
+#[tactic(auto, using(crate::proofs::Imports::groups))]
 fn put_tree(node: &UseTree, tokens: &mut TokenStream) -> Result<(), AllocError>
     ensures put { OnOk result (tokens.new ≡ tokens.old ++ use_tokens node.now) }
     ensures keeps { Keeps tokens.old tokens.new }
