@@ -22,7 +22,7 @@
 //! - `modifiers`: what may stand in front of an item.
 //! - `file`: files.
 //! - `parse`, `parse_members` (private): items, and what stands in them, read from a stream.
-//! - `readers`: fields read from a stream, with and without a name.
+//! - `readers`: fields read from a stream, with and without a name, and what is imported.
 //! - `safety` (private): words that say whether something is safe, or may be written, read and printed.
 //! - `to_tokens`, `import_tokens` (private): what is printed of them.
 //! - `variants` (private): structs that are taken out of the enums that hold them.
