@@ -1,5 +1,6 @@
 pub mod Alone
-pub mod MemberParts
+pub mod Derived
 pub mod Made
+pub mod MemberParts
 pub mod OthersMade
 pub mod TraitMade

@@ -5,12 +5,14 @@
 //!
 //! - `parts`: what stands in front of an item that was read by itself.
 //! - `items`: items of one kind.
+//! - `derive`: what a derive reads.
 //! - `traits`: traits, and bounds with a name.
 //! - `members`: what stands in traits, impls and extern blocks.
 //! - `macros`: calls of macros, in each place.
 //! - `others`: parameters of functions, statements, patterns of several alternatives, and indices.
 #![tactic(auto)]
 
+pub mod derive;
 pub mod items;
 pub mod macros;
 pub mod members;

@@ -8,6 +8,7 @@
 //! - `parse` (private): all these, read from a stream.
 //! - `visibility`: who may name an item.
 //! - `to_tokens` (private): what is printed of them.
+//! - `variants` (private): structs that are taken out of the enums that hold them.
 #![tactic(auto)]
 
 ghost use Rattle.std.specs.Prelude.{[], ◌≡◌, None};
@@ -18,6 +19,7 @@ mod convert;
 pub mod param;
 mod parse;
 mod to_tokens;
+mod variants;
 pub mod visibility;
 
 pub use clause::{PredicateLifetime, PredicateType, WhereClause, WherePredicate};

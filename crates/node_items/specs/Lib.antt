@@ -1,7 +1,10 @@
 pub mod Derived
 pub mod FieldLists
 pub mod FieldMembers
+pub mod FieldsPut
 pub mod FieldsTaken
+pub mod ImportTokens
 pub mod MembersLeft
 pub mod Modifiers
 pub mod Receivers
+pub mod Words

@@ -22,7 +22,10 @@
 //! - `modifiers`: what may stand in front of an item.
 //! - `file`: files.
 //! - `parse`, `parse_members` (private): items, and what stands in them, read from a stream.
-//! - `to_tokens` (private): what is printed of them.
+//! - `readers`: fields read from a stream, with and without a name, and what is imported.
+//! - `safety` (private): words that say whether something is safe, or may be written, read and printed.
+//! - `to_tokens`, `import_tokens` (private): what is printed of them.
+//! - `variants` (private): structs that are taken out of the enums that hold them.
 #![tactic(auto)]
 
 pub mod alias;
@@ -35,6 +38,7 @@ pub mod file;
 pub mod function;
 pub mod implement;
 pub mod import;
+mod import_tokens;
 pub mod into_fields;
 pub mod mac;
 pub mod members;
@@ -43,9 +47,12 @@ pub mod module;
 mod parse;
 mod parse_members;
 mod place;
+pub mod readers;
+mod safety;
 mod to_tokens;
 pub mod traits;
 pub mod value;
+mod variants;
 
 pub use alias::{ItemType, WhereClausePlacement};
 pub use data::{

@@ -1,7 +1,5 @@
 //! Fields, parameters and what stands in blocks of items, read from a stream.
 
-ghost use Rattle.node_traits.specs.Reads.{NoneStands, ReadAs};
-
 use crate::data::{FieldsNamed, FieldsUnnamed, Variant};
 use crate::function::{FnArg, Receiver, Signature};
 use crate::implement::{ImplItem, ImplItemConst, ImplItemFn, ImplItemMacro, ImplItemType};
@@ -9,237 +7,300 @@ use crate::module::{
     ForeignItem, ForeignItemFn, ForeignItemMacro, ForeignItemStatic, ForeignItemType,
 };
 use crate::traits::{TraitItem, TraitItemConst, TraitItemFn, TraitItemMacro, TraitItemType};
-use node_traits::Reads;
+use node_traits::{Native, Reads};
 use syn_error::ParseFault;
 use syn_input::{Parse, ParseBuffer};
 
-impl<E: Reads<FieldsNamed<E>> + Drop> Parse for FieldsNamed<E> {
-    ghost reads = { ReadAs E.kind E.view };
+impl<E: Native> Parse for FieldsNamed<E>
+where
+    E::Reader: Reads<FieldsNamed<E>>,
+{
+    ghost reads = { E.Reader.reads };
 
-    ghost refuses = { NoneStands E.kind };
+    ghost refuses = { E.Reader.refuses };
 
     /// Reads fields in braces.
     fn parse(input: &mut ParseBuffer<'_>) -> Result<FieldsNamed<E>, ParseFault> {
-        <E as Reads<FieldsNamed<E>>>::read(input)
+        <E::Reader as Reads<FieldsNamed<E>>>::read(input)
     }
 }
 
-impl<E: Reads<FieldsUnnamed<E>> + Drop> Parse for FieldsUnnamed<E> {
-    ghost reads = { ReadAs E.kind E.view };
+impl<E: Native> Parse for FieldsUnnamed<E>
+where
+    E::Reader: Reads<FieldsUnnamed<E>>,
+{
+    ghost reads = { E.Reader.reads };
 
-    ghost refuses = { NoneStands E.kind };
+    ghost refuses = { E.Reader.refuses };
 
     /// Reads fields in parentheses.
     fn parse(input: &mut ParseBuffer<'_>) -> Result<FieldsUnnamed<E>, ParseFault> {
-        <E as Reads<FieldsUnnamed<E>>>::read(input)
+        <E::Reader as Reads<FieldsUnnamed<E>>>::read(input)
     }
 }
 
-impl<E: Reads<Variant<E>> + Drop> Parse for Variant<E> {
-    ghost reads = { ReadAs E.kind E.view };
+impl<E: Native> Parse for Variant<E>
+where
+    E::Reader: Reads<Variant<E>>,
+{
+    ghost reads = { E.Reader.reads };
 
-    ghost refuses = { NoneStands E.kind };
+    ghost refuses = { E.Reader.refuses };
 
     /// Reads a variant of an enum.
     fn parse(input: &mut ParseBuffer<'_>) -> Result<Variant<E>, ParseFault> {
-        <E as Reads<Variant<E>>>::read(input)
+        <E::Reader as Reads<Variant<E>>>::read(input)
     }
 }
 
-impl<E: Reads<Signature<E>> + Drop> Parse for Signature<E> {
-    ghost reads = { ReadAs E.kind E.view };
+impl<E: Native> Parse for Signature<E>
+where
+    E::Reader: Reads<Signature<E>>,
+{
+    ghost reads = { E.Reader.reads };
 
-    ghost refuses = { NoneStands E.kind };
+    ghost refuses = { E.Reader.refuses };
 
     /// Reads the signature of a function.
     fn parse(input: &mut ParseBuffer<'_>) -> Result<Signature<E>, ParseFault> {
-        <E as Reads<Signature<E>>>::read(input)
+        <E::Reader as Reads<Signature<E>>>::read(input)
     }
 }
 
-impl<E: Reads<FnArg<E>> + Drop> Parse for FnArg<E> {
-    ghost reads = { ReadAs E.kind E.view };
+impl<E: Native> Parse for FnArg<E>
+where
+    E::Reader: Reads<FnArg<E>>,
+{
+    ghost reads = { E.Reader.reads };
 
-    ghost refuses = { NoneStands E.kind };
+    ghost refuses = { E.Reader.refuses };
 
     /// Reads a parameter of a function.
     fn parse(input: &mut ParseBuffer<'_>) -> Result<FnArg<E>, ParseFault> {
-        <E as Reads<FnArg<E>>>::read(input)
+        <E::Reader as Reads<FnArg<E>>>::read(input)
     }
 }
 
-impl<E: Reads<Receiver<E>> + Drop> Parse for Receiver<E> {
-    ghost reads = { ReadAs E.kind E.view };
+impl<E: Native> Parse for Receiver<E>
+where
+    E::Reader: Reads<Receiver<E>>,
+{
+    ghost reads = { E.Reader.reads };
 
-    ghost refuses = { NoneStands E.kind };
+    ghost refuses = { E.Reader.refuses };
 
     /// Reads what a method is called on.
     fn parse(input: &mut ParseBuffer<'_>) -> Result<Receiver<E>, ParseFault> {
-        <E as Reads<Receiver<E>>>::read(input)
+        <E::Reader as Reads<Receiver<E>>>::read(input)
     }
 }
 
-impl<E: Reads<ForeignItem<E>> + Drop> Parse for ForeignItem<E> {
-    ghost reads = { ReadAs E.kind E.view };
+impl<E: Native> Parse for ForeignItem<E>
+where
+    E::Reader: Reads<ForeignItem<E>>,
+{
+    ghost reads = { E.Reader.reads };
 
-    ghost refuses = { NoneStands E.kind };
+    ghost refuses = { E.Reader.refuses };
 
     /// Reads an item of a foreign block.
     fn parse(input: &mut ParseBuffer<'_>) -> Result<ForeignItem<E>, ParseFault> {
-        <E as Reads<ForeignItem<E>>>::read(input)
+        <E::Reader as Reads<ForeignItem<E>>>::read(input)
     }
 }
 
-impl<E: Reads<ForeignItemFn<E>> + Drop> Parse for ForeignItemFn<E> {
-    ghost reads = { ReadAs E.kind E.view };
+impl<E: Native> Parse for ForeignItemFn<E>
+where
+    E::Reader: Reads<ForeignItemFn<E>>,
+{
+    ghost reads = { E.Reader.reads };
 
-    ghost refuses = { NoneStands E.kind };
+    ghost refuses = { E.Reader.refuses };
 
     /// Reads a function of a foreign block.
     fn parse(input: &mut ParseBuffer<'_>) -> Result<ForeignItemFn<E>, ParseFault> {
-        <E as Reads<ForeignItemFn<E>>>::read(input)
+        <E::Reader as Reads<ForeignItemFn<E>>>::read(input)
     }
 }
 
-impl<E: Reads<ForeignItemStatic<E>> + Drop> Parse for ForeignItemStatic<E> {
-    ghost reads = { ReadAs E.kind E.view };
+impl<E: Native> Parse for ForeignItemStatic<E>
+where
+    E::Reader: Reads<ForeignItemStatic<E>>,
+{
+    ghost reads = { E.Reader.reads };
 
-    ghost refuses = { NoneStands E.kind };
+    ghost refuses = { E.Reader.refuses };
 
     /// Reads a static of a foreign block.
     fn parse(input: &mut ParseBuffer<'_>) -> Result<ForeignItemStatic<E>, ParseFault> {
-        <E as Reads<ForeignItemStatic<E>>>::read(input)
+        <E::Reader as Reads<ForeignItemStatic<E>>>::read(input)
     }
 }
 
-impl<E: Reads<ForeignItemType<E>> + Drop> Parse for ForeignItemType<E> {
-    ghost reads = { ReadAs E.kind E.view };
+impl<E: Native> Parse for ForeignItemType<E>
+where
+    E::Reader: Reads<ForeignItemType<E>>,
+{
+    ghost reads = { E.Reader.reads };
 
-    ghost refuses = { NoneStands E.kind };
+    ghost refuses = { E.Reader.refuses };
 
     /// Reads a type of a foreign block.
     fn parse(input: &mut ParseBuffer<'_>) -> Result<ForeignItemType<E>, ParseFault> {
-        <E as Reads<ForeignItemType<E>>>::read(input)
+        <E::Reader as Reads<ForeignItemType<E>>>::read(input)
     }
 }
 
-impl<E: Reads<ForeignItemMacro<E>> + Drop> Parse for ForeignItemMacro<E> {
-    ghost reads = { ReadAs E.kind E.view };
+impl<E: Native> Parse for ForeignItemMacro<E>
+where
+    E::Reader: Reads<ForeignItemMacro<E>>,
+{
+    ghost reads = { E.Reader.reads };
 
-    ghost refuses = { NoneStands E.kind };
+    ghost refuses = { E.Reader.refuses };
 
     /// Reads a call of a macro in a foreign block.
     fn parse(input: &mut ParseBuffer<'_>) -> Result<ForeignItemMacro<E>, ParseFault> {
-        <E as Reads<ForeignItemMacro<E>>>::read(input)
+        <E::Reader as Reads<ForeignItemMacro<E>>>::read(input)
     }
 }
 
-impl<E: Reads<TraitItem<E>> + Drop> Parse for TraitItem<E> {
-    ghost reads = { ReadAs E.kind E.view };
+impl<E: Native> Parse for TraitItem<E>
+where
+    E::Reader: Reads<TraitItem<E>>,
+{
+    ghost reads = { E.Reader.reads };
 
-    ghost refuses = { NoneStands E.kind };
+    ghost refuses = { E.Reader.refuses };
 
     /// Reads an item of a trait.
     fn parse(input: &mut ParseBuffer<'_>) -> Result<TraitItem<E>, ParseFault> {
-        <E as Reads<TraitItem<E>>>::read(input)
+        <E::Reader as Reads<TraitItem<E>>>::read(input)
     }
 }
 
-impl<E: Reads<TraitItemConst<E>> + Drop> Parse for TraitItemConst<E> {
-    ghost reads = { ReadAs E.kind E.view };
+impl<E: Native> Parse for TraitItemConst<E>
+where
+    E::Reader: Reads<TraitItemConst<E>>,
+{
+    ghost reads = { E.Reader.reads };
 
-    ghost refuses = { NoneStands E.kind };
+    ghost refuses = { E.Reader.refuses };
 
     /// Reads a constant of a trait.
     fn parse(input: &mut ParseBuffer<'_>) -> Result<TraitItemConst<E>, ParseFault> {
-        <E as Reads<TraitItemConst<E>>>::read(input)
+        <E::Reader as Reads<TraitItemConst<E>>>::read(input)
     }
 }
 
-impl<E: Reads<TraitItemFn<E>> + Drop> Parse for TraitItemFn<E> {
-    ghost reads = { ReadAs E.kind E.view };
+impl<E: Native> Parse for TraitItemFn<E>
+where
+    E::Reader: Reads<TraitItemFn<E>>,
+{
+    ghost reads = { E.Reader.reads };
 
-    ghost refuses = { NoneStands E.kind };
+    ghost refuses = { E.Reader.refuses };
 
     /// Reads a function of a trait.
     fn parse(input: &mut ParseBuffer<'_>) -> Result<TraitItemFn<E>, ParseFault> {
-        <E as Reads<TraitItemFn<E>>>::read(input)
+        <E::Reader as Reads<TraitItemFn<E>>>::read(input)
     }
 }
 
-impl<E: Reads<TraitItemType<E>> + Drop> Parse for TraitItemType<E> {
-    ghost reads = { ReadAs E.kind E.view };
+impl<E: Native> Parse for TraitItemType<E>
+where
+    E::Reader: Reads<TraitItemType<E>>,
+{
+    ghost reads = { E.Reader.reads };
 
-    ghost refuses = { NoneStands E.kind };
+    ghost refuses = { E.Reader.refuses };
 
     /// Reads a type of a trait.
     fn parse(input: &mut ParseBuffer<'_>) -> Result<TraitItemType<E>, ParseFault> {
-        <E as Reads<TraitItemType<E>>>::read(input)
+        <E::Reader as Reads<TraitItemType<E>>>::read(input)
     }
 }
 
-impl<E: Reads<TraitItemMacro<E>> + Drop> Parse for TraitItemMacro<E> {
-    ghost reads = { ReadAs E.kind E.view };
+impl<E: Native> Parse for TraitItemMacro<E>
+where
+    E::Reader: Reads<TraitItemMacro<E>>,
+{
+    ghost reads = { E.Reader.reads };
 
-    ghost refuses = { NoneStands E.kind };
+    ghost refuses = { E.Reader.refuses };
 
     /// Reads a call of a macro in a trait.
     fn parse(input: &mut ParseBuffer<'_>) -> Result<TraitItemMacro<E>, ParseFault> {
-        <E as Reads<TraitItemMacro<E>>>::read(input)
+        <E::Reader as Reads<TraitItemMacro<E>>>::read(input)
     }
 }
 
-impl<E: Reads<ImplItem<E>> + Drop> Parse for ImplItem<E> {
-    ghost reads = { ReadAs E.kind E.view };
+impl<E: Native> Parse for ImplItem<E>
+where
+    E::Reader: Reads<ImplItem<E>>,
+{
+    ghost reads = { E.Reader.reads };
 
-    ghost refuses = { NoneStands E.kind };
+    ghost refuses = { E.Reader.refuses };
 
     /// Reads an item of an impl.
     fn parse(input: &mut ParseBuffer<'_>) -> Result<ImplItem<E>, ParseFault> {
-        <E as Reads<ImplItem<E>>>::read(input)
+        <E::Reader as Reads<ImplItem<E>>>::read(input)
     }
 }
 
-impl<E: Reads<ImplItemConst<E>> + Drop> Parse for ImplItemConst<E> {
-    ghost reads = { ReadAs E.kind E.view };
+impl<E: Native> Parse for ImplItemConst<E>
+where
+    E::Reader: Reads<ImplItemConst<E>>,
+{
+    ghost reads = { E.Reader.reads };
 
-    ghost refuses = { NoneStands E.kind };
+    ghost refuses = { E.Reader.refuses };
 
     /// Reads a constant of an impl.
     fn parse(input: &mut ParseBuffer<'_>) -> Result<ImplItemConst<E>, ParseFault> {
-        <E as Reads<ImplItemConst<E>>>::read(input)
+        <E::Reader as Reads<ImplItemConst<E>>>::read(input)
     }
 }
 
-impl<E: Reads<ImplItemFn<E>> + Drop> Parse for ImplItemFn<E> {
-    ghost reads = { ReadAs E.kind E.view };
+impl<E: Native> Parse for ImplItemFn<E>
+where
+    E::Reader: Reads<ImplItemFn<E>>,
+{
+    ghost reads = { E.Reader.reads };
 
-    ghost refuses = { NoneStands E.kind };
+    ghost refuses = { E.Reader.refuses };
 
     /// Reads a function of an impl.
     fn parse(input: &mut ParseBuffer<'_>) -> Result<ImplItemFn<E>, ParseFault> {
-        <E as Reads<ImplItemFn<E>>>::read(input)
+        <E::Reader as Reads<ImplItemFn<E>>>::read(input)
     }
 }
 
-impl<E: Reads<ImplItemType<E>> + Drop> Parse for ImplItemType<E> {
-    ghost reads = { ReadAs E.kind E.view };
+impl<E: Native> Parse for ImplItemType<E>
+where
+    E::Reader: Reads<ImplItemType<E>>,
+{
+    ghost reads = { E.Reader.reads };
 
-    ghost refuses = { NoneStands E.kind };
+    ghost refuses = { E.Reader.refuses };
 
     /// Reads a type of an impl.
     fn parse(input: &mut ParseBuffer<'_>) -> Result<ImplItemType<E>, ParseFault> {
-        <E as Reads<ImplItemType<E>>>::read(input)
+        <E::Reader as Reads<ImplItemType<E>>>::read(input)
     }
 }
 
-impl<E: Reads<ImplItemMacro<E>> + Drop> Parse for ImplItemMacro<E> {
-    ghost reads = { ReadAs E.kind E.view };
+impl<E: Native> Parse for ImplItemMacro<E>
+where
+    E::Reader: Reads<ImplItemMacro<E>>,
+{
+    ghost reads = { E.Reader.reads };
 
-    ghost refuses = { NoneStands E.kind };
+    ghost refuses = { E.Reader.refuses };
 
     /// Reads a call of a macro in an impl.
     fn parse(input: &mut ParseBuffer<'_>) -> Result<ImplItemMacro<E>, ParseFault> {
-        <E as Reads<ImplItemMacro<E>>>::read(input)
+        <E::Reader as Reads<ImplItemMacro<E>>>::read(input)
     }
 }

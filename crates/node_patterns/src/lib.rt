@@ -5,13 +5,17 @@
 //! - `convert` (private): structs as the enums that hold them.
 //! - `kinds`: each kind of pattern.
 //! - `fields`: patterns that take structs apart.
+//! - `readers`: patterns read from a stream, with and without `|`.
 //! - `to_tokens` (private): what is printed of them.
+//! - `variants` (private): structs that are taken out of the enum that holds them.
 #![tactic(auto)]
 
 mod convert;
 pub mod fields;
 pub mod kinds;
+pub mod readers;
 mod to_tokens;
+mod variants;
 
 pub use fields::{FieldPat, PatStruct, PatTupleStruct};
 pub use kinds::{

@@ -1,5 +1,6 @@
 //! Generics, where clauses and visibilities, as trees that are printed.
 
+ghost use Rattle.node_generics.specs.declared.visibility.Visibility.TheVariants as visibilities;
 ghost use Rattle.node_views.specs.Generics as generics;
 
 use crate::{TreePrinter, Trees};
@@ -7,10 +8,10 @@ use node_to::to_tree::ToTree;
 use node_generics::Generics;
 use node_generics::clause::{PredicateType, WhereClause, WherePredicate};
 use node_generics::param::{ConstParam, GenericParam, TypeParam};
-use node_generics::visibility::Visibility;
+use node_generics::visibility::{VisRestricted, Visibility};
 use node_to_types::conditions::{predicate_type, where_clause, where_predicate};
 use node_to_types::generics::{const_param, generic_param, generics, type_param};
-use node_to_types::visibility::visibility;
+use node_to_types::visibility::{vis_restricted, visibility};
 use reader_tree::arena::Arena;
 use reader_tree::tree::Tree;
 use std::alloc::AllocError;
@@ -60,6 +61,14 @@ impl<E: ToTree> Trees<Visibility<E>> for TreePrinter<E> {
 
     fn tree<'a>(value: &'a Visibility<E>, arena: &'a Arena) -> Result<Tree<'a>, AllocError> {
         visibility(arena, value)
+    }
+}
+
+impl<E: ToTree> Trees<VisRestricted<E>> for TreePrinter<E> {
+    ghost view = { λ x. generics.visibility E.tree (visibilities.Restricted x) };
+
+    fn tree<'a>(value: &'a VisRestricted<E>, arena: &'a Arena) -> Result<Tree<'a>, AllocError> {
+        vis_restricted(arena, value)
     }
 }
 

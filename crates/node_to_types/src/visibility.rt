@@ -1,5 +1,6 @@
 //! Visibilities as trees.
 
+ghost use Rattle.node_generics.specs.declared.visibility.Visibility.TheVariants as visibilities;
 ghost use Rattle.node_to_types.specs.Words.{kept_keyword, keyword_alone, sole_keyword};
 ghost use Rattle.node_views.specs.Generics as views;
 ghost use Rattle.node_views.specs.Paths as paths;
@@ -98,6 +99,22 @@ fn public<'a>(arena: &'a Arena, word: Tree<'a>, behind: Tree<'a>) -> Result<Tree
     made::node(arena, Kind::Visibility, chosen)
 }
 
+/// A visibility that names a module.
+///
+/// # Errors
+///
+/// Where there is no memory for it.
+pub fn vis_restricted<'a, E: ToTree>(
+    arena: &'a Arena,
+    node: &'a VisRestricted<E>,
+) -> Result<Tree<'a>, AllocError>
+    ensures { IfOk result (λ x. x ≡ views.visibility E.tree (visibilities.Restricted node.now)) }
+{
+    let word = node.pub_token.to_tree(arena)?;
+    let behind = made::first(arena, restriction(arena, node)?)?;
+    public(arena, word, behind)
+}
+
 /// A visibility.
 ///
 /// # Errors
@@ -114,11 +131,7 @@ pub fn visibility<'a, E: ToTree>(
             let word = token.to_tree(arena)?;
             public(arena, word, absent(arena)?)
         }
-        Visibility::Restricted(inner) => {
-            let word = inner.pub_token.to_tree(arena)?;
-            let behind = made::first(arena, restriction(arena, inner)?)?;
-            public(arena, word, behind)
-        }
+        Visibility::Restricted(inner) => vis_restricted(arena, inner),
         Visibility::Inherited => made::node(arena, Kind::Visibility, absent(arena)?),
     }
 }
