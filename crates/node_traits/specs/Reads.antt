@@ -1,4 +1,4 @@
--- What is read of a stream's tokens, as the grammar derives it of them.
+-- What is read of a stream's tokens.
 use Rattle.std.specs.Prelude.{◌≡◌, ◌⊎◌, List}
 use Rattle.proc_macro2.specs.Token.{Spanned, plain}
 use Rattle.syn_grammar.specs.Kind.{Kind}
@@ -17,14 +17,15 @@ NoneStands kind tokens = NoneRead kind (plain tokens)
 abbrev pub IsOther : {T V : Type 0} → (V → T) → T → Type 0
 IsOther {T} {V} variant value = (x : V) → value ≡ variant x → ⊥
 
--- The tokens begin with a form of the kind that is another variant than this one.
-pub record OtherStands {T V : Type 0} (kind : Kind) (view : T → Tree) (variant : V → T) (tokens : List Spanned) :
-    Type 0 where
+-- A value is read of the tokens, and it is another variant than this one.
+pub record OtherStands {T V : Type 0} (reads : List Spanned → T → List Spanned → Type 0) (variant : V → T)
+    (tokens : List Spanned) : Type 0 where
   pub value : T
   pub behind : List Spanned
-  pub read : ReadAs kind view tokens value behind
+  pub read : reads tokens value behind
   pub other : IsOther variant value
 
--- They begin with no form of the kind, or with one that is another variant than this one.
-abbrev pub NoneOrOther : {T V : Type 0} → Kind → (T → Tree) → (V → T) → List Spanned → Type 0
-NoneOrOther kind view variant tokens = NoneStands kind tokens ⊎ OtherStands kind view variant tokens
+-- No value is read of the tokens, or one that is another variant than this one.
+abbrev pub NoneOrOther : {T V : Type 0} → (List Spanned → T → List Spanned → Type 0) → (List Spanned → Type 0)
+    → (V → T) → List Spanned → Type 0
+NoneOrOther reads refuses variant tokens = refuses tokens ⊎ OtherStands reads variant tokens

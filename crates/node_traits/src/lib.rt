@@ -1,17 +1,16 @@
 //! What a type that closes the recursion says of the types over it: what reads and what prints their values.
 //!
-//! `Parse` and `ToTokens` stand with each type, and ask for that of its `E`. What reads and prints stands above all of
-//! the types, for any `E` that is made of trees and is one.
+//! `Parse` and `ToTokens` stand with each type, and ask for that of what its `E` names. What reads and prints stands
+//! above all of the types, for any `E` that is made of trees and is one.
 #![tactic(auto)]
 
+ghost use Rattle.node_traits.specs.Reads.{NoneOrOther};
+ghost use Rattle.node_traits.specs.Variants.{TakesOut};
 ghost use Rattle.proc_macro2.specs.Token.{Spanned};
-ghost use Rattle.std.specs.Prelude.{◌≡◌, IfErr, IfOk, List, OnOk};
+ghost use Rattle.std.specs.Prelude.{◌≡◌, IfErr, IfOk, List, OnOk, Result as GivenResult};
 ghost use Rattle.syn_error.specs.Faults.{IsSyntax};
 ghost use Rattle.syn_error.specs.Front.{Keeps};
-ghost use Rattle.syn_grammar.specs.Kind.{Kind as GivenKind};
-ghost use Rattle.syn_grammar.specs.Read.{IsRead, NoneRead};
-ghost use Rattle.syn_grammar.specs.Tree.{Tree as GivenTree};
-ghost use Rattle.syn_input.specs.Input.{IsOnward, left};
+ghost use Rattle.syn_input.specs.Input.{IsOnward, rest};
 
 use proc_macro2::tree::TokenStream;
 use std::alloc::AllocError;
@@ -29,21 +28,21 @@ pub trait Native: Drop {
 
 /// What reads values of a type from a stream.
 pub trait Reads<T> {
-    /// The kind of the forms that they are read of.
-    ghost kind: { GivenKind };
+    /// The value is read from the tokens, and the last ones are left.
+    ghost reads: { List Spanned → T → List Spanned → Type 0 };
 
-    /// What a value is as a tree that a syntax tree holds.
-    ghost view: { T → GivenTree };
+    /// No value is read from the tokens.
+    ghost refuses: { List Spanned → Type 0 };
 
     /// Reads the value that stands there, and leaves the stream behind it. Invisible groups are passed through.
     ///
     /// # Errors
     ///
-    /// `Syntax` exactly where the grammar derives none of what stands there: the error says what was wanted, at the
-    /// token that stands in its place. `Memory` only where a growth was refused. The stream then stands where it stood.
+    /// `Syntax` exactly where no value is read from what stands there: the error says what was wanted, at the token
+    /// that stands in its place. `Memory` only where a growth was refused. The stream is then at its start or past it.
     fn read(input: &mut ParseBuffer<'_>) -> Result<T, ParseFault>
-        ensures found { IfOk result (λ x. IsRead kind (left input.old) (view x) (left input.new)) }
-        ensures none { IfErr result (λ e. IsSyntax e → NoneRead kind (left input.old)) }
+        ensures found { IfOk result (λ x. reads (rest input.old) x (rest input.new)) }
+        ensures none { IfErr result (λ e. IsSyntax e → refuses (rest input.old)) }
         ensures noted { OnOk result (input.new.noted ≡ input.old.noted) }
         ensures onward { IsOnward input.old input.new };
 }
@@ -63,4 +62,44 @@ pub trait Prints<T> {
     fn print(value: &T, tokens: &mut TokenStream) -> Result<(), AllocError>
         ensures put { OnOk result (puts value.now tokens.old tokens.new) }
         ensures keeps { Keeps tokens.old tokens.new };
+}
+
+/// A struct that is one variant of an enum.
+///
+/// `TryFrom` takes it out of that variant, and hands each other variant back.
+pub trait Variant<T>: TryFrom<T, Error = T> {
+    /// The enum that a struct is.
+    ghost variant: { Self → T };
+
+    /// `try_from` takes out exactly that variant.
+    ghost takes_out: { (whole : T) (given : GivenResult Self T) → Self.try_from_gives whole given
+        → TakesOut variant whole given };
+}
+
+/// Reads a value of an enum, and refuses all but the variant that is wanted. The words say in an error what that is.
+///
+/// # Errors
+///
+/// `Syntax` exactly where no value is read from what stands there, or another variant. `Memory` only where a growth
+/// was refused. The stream then stands where it stood.
+pub fn single<T: Drop, V: Variant<T> + Drop, R: Reads<T>>(
+    input: &mut ParseBuffer<'_>,
+    words: &'static str,
+) -> Result<V, ParseFault>
+    ensures found { IfOk result (λ x. R.reads (rest input.old) (V.variant x) (rest input.new)) }
+    ensures none { IfErr result (λ e. IsSyntax e → NoneOrOther R.reads R.refuses V.variant (rest input.old)) }
+    ensures noted { OnOk result (input.new.noted ≡ input.old.noted) }
+    ensures onward { IsOnward input.old input.new }
+{
+    let mut ahead = input.fork();
+    match V::try_from(R::read(&mut ahead)?) {
+        Ok(form) => {
+            input.advance_to(ahead);
+            Ok(form)
+        }
+        Err(other) => {
+            drop(other);
+            Err(input.expected(words))
+        }
+    }
 }
