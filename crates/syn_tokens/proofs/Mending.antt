@@ -187,3 +187,5 @@ all_mended os inside all e f =
     sym (append-nil inside)
     ∙ ap (λ (xs : List Outer). (outer_tokens xs ++ inside)
     ++ mended (grouped xs) []) (sym e) ∙ f
+
+pub ruleset goes = (mend_more, all_mended)

@@ -284,7 +284,7 @@ none_left : (ds : List Delimiter) → stand ds [] ≡ true → ds ≡ []
 none_left [] h = refl
 none_left (d ∷ ds) h = cc
 
-none_outer : (os : List Outer) → length os ≡ 0 → os ≡ []
+pub none_outer : (os : List Outer) → length os ≡ 0 → os ≡ []
 none_outer [] e = refl
 none_outer (o ∷ os) e = cc
 

@@ -273,6 +273,7 @@ pub fn stream_of(alloc: Global, pieces: &[Piece<'_>]) -> Result<Option<TokenStre
 /// # Errors
 ///
 /// Where there is no memory for it.
+#[tactic(auto, using(crate::proofs::Mending::goes))]
 pub fn stream_with(alloc: Global, pieces: &[Piece<'_>]) -> Result<TokenStream, AllocError>
     ensures tokens { IfOk result (λ s. plain s ≡ as_stream [] (map piece_token pieces.now)) }
     ensures places { IfOk result (λ s. s ≡ mended [] pieces.now) }
