@@ -22,9 +22,9 @@ use node_expressions::block::{
     ExprUnsafe, ExprWhile, Label,
 };
 use node_expressions::statement::Stmt;
+use node_from::What;
 use node_from::attributes::push_inner_attributes;
 use node_from::exprs::expression;
-use node_from::What;
 use node_paths::attribute::Attribute;
 use node_take as take;
 use reader_table::kind::{Kind, Position};

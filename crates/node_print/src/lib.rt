@@ -38,8 +38,8 @@ fn put_printed<'a>(
     }
 }
 
-/// Adds the tokens of a tree's normal form at the end, as a stream has them, each where it was read. What was added, and
-/// what was made without a place, stands at the call site. A literal that begins with a minus is that mark and the
+/// Adds the tokens of a tree's normal form at the end, as a stream has them, each where it was read. What was added,
+/// and what was made without a place, stands at the call site. A literal that begins with a minus is that mark and the
 /// literal behind it. A tree whose normal form would have a list with two separators is added as it is.
 ///
 /// # Errors

@@ -24,7 +24,6 @@ mod types;
 
 pub use closed::Closed;
 pub use grown::{Grown, Inside};
-
 use node_read::Makes;
 use node_traits::Reads;
 use std::marker::PhantomData;

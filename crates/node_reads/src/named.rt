@@ -1,6 +1,6 @@
 //! What is read by a name of its own: a form of a type that is not the one that stands by itself.
 
-ghost use Rattle.node_reads.specs.Wholes.{whole, within};
+ghost use Rattle.node_reads.specs.Wholes.{alternatives, whole, within};
 ghost use Rattle.node_views.specs.Data as structs;
 ghost use Rattle.node_views.specs.Paths as paths;
 ghost use Rattle.node_views.specs.Patterns as patterns;
@@ -15,11 +15,11 @@ use node_from::segments::path;
 use node_from_bodies::blocks::all_statements;
 use node_from_forms::dispatch::form;
 use node_from_items::data::{named_field, unnamed_field};
-use node_from_patterns::dispatch::one_pattern;
+use node_from_patterns::dispatch::{one_pattern, pattern};
 use node_from_singles::others::one_multi;
 use node_items::readers::{NamedField, UnnamedField};
 use node_paths::readers::{InnerAttributes, ModStylePath, OuterAttributes};
-use node_patterns::readers::{MultiPat, SinglePat};
+use node_patterns::readers::{MultiPat, MultiPatWithLeadingVert, SinglePat};
 use node_read::Makes;
 use node_take as take;
 use reader_table::kind::{Kind, Position, Style};
@@ -148,6 +148,22 @@ impl<E: Grown> Makes<MultiPat<E>> for TreeReader<E> {
     fn make(alloc: Global, tree: &Tree<'_>) -> Result<MultiPat<E>, AllocError> {
         let pat = one_multi(&Inside::new(alloc, tree), tree)?;
         Ok(MultiPat { pat })
+    }
+}
+
+impl<E: Grown> Makes<MultiPatWithLeadingVert<E>> for TreeReader<E> {
+    ghost kind = { k.Pattern };
+
+    ghost view = { λ x. alternatives (patterns.pat E.view x.pat) };
+
+    fn kind() -> Kind {
+        Kind::Pattern
+    }
+
+    #[tactic(auto, using(crate::proofs::Alternatives::whole_again))]
+    fn make(alloc: Global, tree: &Tree<'_>) -> Result<MultiPatWithLeadingVert<E>, AllocError> {
+        let pat = pattern(&Inside::new(alloc, tree), tree)?;
+        Ok(MultiPatWithLeadingVert { pat })
     }
 }
 

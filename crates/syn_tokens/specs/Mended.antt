@@ -21,9 +21,9 @@ in_stream (Literal cs) = cond (starts_with_minus cs) (Punct minus Apart ∷ Lite
 in_stream (Punct c spacing) = cond (is_mark c) (Punct c spacing ∷ []) []
 in_stream _ = []
 
--- The stream that is made of tokens, inside groups with these delimiters, the innermost first. What closes another group
--- than the innermost one is left out, and a group that is open at the end is closed there. So nothing is left out or
--- added where each group is closed by a mark of its own, as in a tree whose raw tokens are those of streams.
+-- The stream that is made of tokens, inside groups with these delimiters, the innermost first. What closes another
+-- group than the innermost one is left out, and a group that is open at the end is closed there. So nothing is left out
+-- or added where each group is closed by a mark of its own, as in a tree whose raw tokens are those of streams.
 abbrev pub as_stream : List Delimiter → List Token → List Token
 as_stream ds [] = map Closes ds
 as_stream ds (Opens d ∷ ts) = Opens d ∷ as_stream (d ∷ ds) ts

@@ -1,5 +1,5 @@
 use denote.Enum.Bare.{same_true}
-use Rattle.std.proofs.Common.{◌≡◌, ◌-◌, [], ◌∷◌, ◌++◌, List, length, rules, slice_get, sym, ◌∙◌, ap, Some}
+use Rattle.std.proofs.Common.{◌≡◌, ◌-◌, [], ◌∷◌, ◌++◌, List, Some, length, rules, slice_get, sym, ◌∙◌, ap}
 use Rattle.std.specs.declared.alloc.Global.{Global}
 use Rattle.std.specs.declared.vec.Vec.{Vec}
 use Rattle.proc_macro2.specs.contracts.delimiter.Delimiter.{the_type}
@@ -17,10 +17,10 @@ was_last c =
 
 was_seen : (c : In_ok-end) → c.in-Some.last.now ≡ c.in-Some-pop.outer
 was_seen c =
-    let seen : Some c.in-Some.last.now ≡ slice_get c.args.self.now.outer.items (length c.args.self.now.outer.items - 1) =
+    let all : List Outer = c.args.self.now.outer.items in
+    let seen : Some c.in-Some.last.now ≡ slice_get all (length all - 1) =
     c.in-Some.ensures.value ∙ ap (λ (xs : List Outer). slice_get xs (length xs - 1)) c.deref.ensures.value in
-    last_outer c.args.self.now.outer.items c.end.new.self.outer.items c.in-Some-pop.outer c.in-Some.last.now (was_last c)
-    seen
+    last_outer all c.end.new.self.outer.items c.in-Some-pop.outer c.in-Some.last.now (was_last c) seen
 
 has_delimiter : (c : In_ok-end) → c.in-Some-pop.outer.delimiter ≡ c.args.delimiter
 has_delimiter c =
