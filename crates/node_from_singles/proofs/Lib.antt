@@ -3,3 +3,4 @@ pub mod MemberParts
 pub mod Made
 pub mod OthersMade
 pub mod TraitMade
+pub mod Derived
