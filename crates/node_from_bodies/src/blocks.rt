@@ -22,18 +22,22 @@ use node_expressions::block::{
     ExprUnsafe, ExprWhile, Label,
 };
 use node_expressions::statement::Stmt;
+use node_from::What;
 use node_from::attributes::push_inner_attributes;
 use node_from::exprs::expression;
-use node_from::What;
 use node_paths::attribute::Attribute;
 use node_take as take;
 use reader_table::kind::{Kind, Position};
 use reader_tree::tree::Tree;
 use std::alloc::AllocError;
 
-// The statements that stand in braces.
+/// The statements that stand in braces, without these.
+///
+/// # Errors
+///
+/// Where there is no memory for them.
 #[tactic(auto, unfolding(syn_grammar::specs::Table::table, syn_grammar::specs::Kept::held, syn_kinds::specs::Table::marks, syn_kinds::specs::Table::sign, syn_kinds::specs::Table::word))]
-fn all_statements<E: Drop, R: Maker<E>>(
+pub fn all_statements<E: Drop, R: Maker<E>>(
     below: &R,
     tree: &Tree<'_>,
 ) -> Result<Vec<Stmt<E>>, AllocError>

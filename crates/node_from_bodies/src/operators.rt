@@ -17,8 +17,8 @@ use crate::Maker;
 use node_expressions::branch::ExprLet;
 use node_expressions::expr::Expr;
 use node_expressions::operator::{ExprAssign, ExprBinary, ExprCast, ExprRange, ExprRawAddr};
-use node_from::exprs::{compare_op, product_op, shift_op, sum_op};
 use node_from::What;
+use node_from::exprs::{compare_op, product_op, shift_op, sum_op};
 use node_take as take;
 use node_take::Between;
 use node_types::kinds::PointerMutability;
@@ -231,12 +231,7 @@ fn operator(which: Between, own: &Tree<'_>) -> BinOp
 }
 
 // An assignment between operands.
-fn assignment<E: Drop, R: Maker<E>>(
-    below: &R,
-    left: E,
-    own: &Tree<'_>,
-    right: E,
-) -> Expr<E>
+fn assignment<E: Drop, R: Maker<E>>(below: &R, left: E, own: &Tree<'_>, right: E) -> Expr<E>
     requires { IsShaped own.now (table k.ExprAssign) }
     ensures { views.expr R.view result
         ≡ t.Infix (R.view left) k.ExprAssign (kept own.now) (R.view right) }

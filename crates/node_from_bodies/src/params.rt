@@ -9,8 +9,8 @@ ghost use Rattle.syn_grammar.specs.Kept.{kept};
 ghost use Rattle.syn_grammar.specs.Kind as k;
 
 use crate::Maker;
-use node_from::attributes::outer_attributes;
 use node_from::What;
+use node_from::attributes::outer_attributes;
 use node_patterns::Pat;
 use node_patterns::kinds::PatType;
 use node_take as take;

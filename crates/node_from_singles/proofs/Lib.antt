@@ -4,3 +4,4 @@ pub mod Made
 pub mod MemberParts
 pub mod OthersMade
 pub mod TraitMade
+pub mod Derived

@@ -9,6 +9,7 @@
 //! - `traits`: traits, and bounds with a name.
 //! - `members`: what stands in traits, impls and extern blocks.
 //! - `macros`: calls of macros, in each place.
+//! - `derive`: what a derive reads.
 //! - `others`: parameters of functions, statements, patterns of several alternatives, and indices.
 #![tactic(auto)]
 

@@ -57,8 +57,7 @@ impl<
     N: Fn(Global, What, &Tree<'_>) -> Result<E, AllocError>,
     P: Fn(Global, Vec<Attribute<E>>, &Tree<'_>) -> Result<E, AllocError>,
     S: Fn(Global, &Tree<'_>) -> Result<Stmt<E>, AllocError>,
-> Reader<E> for Below<'t, 'a, E, I, N, P, S>
-{
+> Reader<E> for Below<'t, 'a, E, I, N, P, S> {
     ghost ready = { λ b. MakesNodes E.view (node_count b.above.now) (N.pre b.node) (N.post b.node)
         × MakesPatterns E.view (node_count b.above.now) (P.pre b.pattern) (P.post b.pattern)
         × MakesStatements E.view (node_count b.above.now) (S.pre b.statement) (S.post b.statement) };
@@ -84,8 +83,7 @@ impl<
     N: Fn(Global, What, &Tree<'_>) -> Result<E, AllocError>,
     P: Fn(Global, Vec<Attribute<E>>, &Tree<'_>) -> Result<E, AllocError>,
     S: Fn(Global, &Tree<'_>) -> Result<Stmt<E>, AllocError>,
-> Maker<E> for Below<'t, 'a, E, I, N, P, S>
-{
+> Maker<E> for Below<'t, 'a, E, I, N, P, S> {
     fn expression(&self, form: Expr<E>) -> Result<E, AllocError>
         ensures { IfOk result (λ x. E.view x ≡ expressions.expr E.view form) }
     {
@@ -98,11 +96,7 @@ impl<
         E::of_pat(self.alloc, pattern)
     }
 
-    fn attributed_pattern(
-        &self,
-        attrs: Vec<Attribute<E>>,
-        tree: &Tree<'_>,
-    ) -> Result<E, AllocError>
+    fn attributed_pattern(&self, attrs: Vec<Attribute<E>>, tree: &Tree<'_>) -> Result<E, AllocError>
         requires ready { MakesPatterns E.view (node_count self.now.above.now) (P.pre self.now.pattern)
             (P.post self.now.pattern) }
         requires shaped { IsShaped tree.now (ref k.OnePattern) }
@@ -131,8 +125,7 @@ impl<
     N: Fn(Global, What, &Tree<'_>) -> Result<E, AllocError>,
     P: Fn(Global, Vec<Attribute<E>>, &Tree<'_>) -> Result<E, AllocError>,
     S: Fn(Global, &Tree<'_>) -> Result<Stmt<E>, AllocError>,
-> ItemMaker<E, I> for Below<'t, 'a, E, I, N, P, S>
-{
+> ItemMaker<E, I> for Below<'t, 'a, E, I, N, P, S> {
     ghost item_view = { E.item_view };
 
     fn of_const(&self, item: ItemConst<E>) -> I

@@ -6,8 +6,8 @@ ghost use Rattle.node_views.specs.Singles as singles;
 ghost use Rattle.node_views.specs.Statements as statements;
 ghost use Rattle.syn_grammar.specs.Kind as k;
 
-use crate::grown::{Grown, Inside};
 use crate::TreeReader;
+use crate::grown::{Grown, Inside};
 use node_expressions::atom::FieldValue;
 use node_expressions::block::Block;
 use node_expressions::branch::Arm;

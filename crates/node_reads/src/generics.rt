@@ -3,8 +3,8 @@
 ghost use Rattle.node_views.specs.Generics as generics;
 ghost use Rattle.syn_grammar.specs.Kind as k;
 
-use crate::grown::{Grown, Inside};
 use crate::TreeReader;
+use crate::grown::{Grown, Inside};
 use node_from::visibility::visibility;
 use node_from_generics::generics as from;
 use node_generics::Generics;

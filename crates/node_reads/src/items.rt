@@ -3,8 +3,8 @@
 ghost use Rattle.node_views.specs.Singles as singles;
 ghost use Rattle.syn_grammar.specs.Kind as k;
 
-use crate::grown::{Grown, Inside};
 use crate::TreeReader;
+use crate::grown::{Grown, Inside};
 use node_from_singles::items::{
     one_const, one_enum, one_extern_crate, one_fn, one_foreign_mod, one_impl, one_mod, one_static,
     one_struct, one_type, one_union, one_use,

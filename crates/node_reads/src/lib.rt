@@ -5,9 +5,10 @@
 //!   node that a tree is by that.
 //! - `grown`: what is asked of the type that closes the recursion, and what makes the nodes in a tree by that.
 //! - `paths`, `types`, `generics`, `expressions`, `items`, `members` (private): of each type its kind and its maker.
+//! - `named` (private): the same of what is read by a name of its own.
 #![tactic(auto)]
 
-ghost use Rattle.syn_grammar.specs.Kind.{Kind};
+ghost use Rattle.node_traits.specs.Reads.{NoneStands, ReadAs};
 
 pub mod below;
 pub mod by;
@@ -17,12 +18,12 @@ mod generics;
 pub mod grown;
 mod items;
 mod members;
+mod named;
 mod paths;
 mod types;
 
 pub use closed::Closed;
 pub use grown::{Grown, Inside};
-
 use node_read::Makes;
 use node_traits::Reads;
 use std::marker::PhantomData;
@@ -38,9 +39,9 @@ impl<E: Grown, T: Drop> Reads<T> for TreeReader<E>
 where
     TreeReader<E>: Makes<T>,
 {
-    ghost kind = { ⟦<TreeReader<E> as Makes<T>>⟧.kind };
+    ghost reads = { ReadAs ⟦<TreeReader<E> as Makes<T>>⟧.kind ⟦<TreeReader<E> as Makes<T>>⟧.view };
 
-    ghost view = { ⟦<TreeReader<E> as Makes<T>>⟧.view };
+    ghost refuses = { NoneStands ⟦<TreeReader<E> as Makes<T>>⟧.kind };
 
     fn read(input: &mut ParseBuffer<'_>) -> Result<T, ParseFault> {
         node_read::read::<T, TreeReader<E>>(input)

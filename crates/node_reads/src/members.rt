@@ -6,8 +6,8 @@ ghost use Rattle.node_views.specs.Members as members;
 ghost use Rattle.node_views.specs.Singles as singles;
 ghost use Rattle.syn_grammar.specs.Kind as k;
 
-use crate::grown::{Grown, Inside};
 use crate::TreeReader;
+use crate::grown::{Grown, Inside};
 use node_from_items::data::{fields_named, fields_unnamed, variant};
 use node_from_items::foreign::foreign_item;
 use node_from_items::functions::signature;

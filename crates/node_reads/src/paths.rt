@@ -3,8 +3,8 @@
 ghost use Rattle.node_views.specs.Paths as paths;
 ghost use Rattle.syn_grammar.specs.Kind as k;
 
-use crate::grown::{Grown, Inside};
 use crate::TreeReader;
+use crate::grown::{Grown, Inside};
 use node_from::bounds::{bound_lifetimes, lifetime_param, trait_bound, type_param_bound};
 use node_from::fn_pointers::return_type;
 use node_from::paths::{angle_bracketed, generic_argument, parenthesized};
@@ -60,7 +60,10 @@ impl<E: Grown> Makes<AngleBracketedGenericArguments<E>> for TreeReader<E> {
         Kind::Arguments
     }
 
-    fn make(alloc: Global, tree: &Tree<'_>) -> Result<AngleBracketedGenericArguments<E>, AllocError> {
+    fn make(
+        alloc: Global,
+        tree: &Tree<'_>,
+    ) -> Result<AngleBracketedGenericArguments<E>, AllocError> {
         angle_bracketed(&Inside::new(alloc, tree), tree)
     }
 }
@@ -74,7 +77,10 @@ impl<E: Grown> Makes<ParenthesizedGenericArguments<E>> for TreeReader<E> {
         Kind::ParenthesizedArguments
     }
 
-    fn make(alloc: Global, tree: &Tree<'_>) -> Result<ParenthesizedGenericArguments<E>, AllocError> {
+    fn make(
+        alloc: Global,
+        tree: &Tree<'_>,
+    ) -> Result<ParenthesizedGenericArguments<E>, AllocError> {
         parenthesized(&Inside::new(alloc, tree), tree)
     }
 }

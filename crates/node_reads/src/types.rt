@@ -3,13 +3,11 @@
 ghost use Rattle.node_views.specs.Types as types;
 ghost use Rattle.syn_grammar.specs.Kind as k;
 
-use crate::grown::{Grown, Inside};
 use crate::TreeReader;
+use crate::grown::{Grown, Inside};
 use node_from::fn_pointers::{fn_ptr_arg, type_fn_ptr};
 use node_from::qualified::any_path;
-use node_from::types::{
-    type_, type_impl_trait, type_ptr, type_reference, type_trait_object,
-};
+use node_from::types::{type_, type_impl_trait, type_ptr, type_reference, type_trait_object};
 use node_read::Makes;
 use node_types::Type;
 use node_types::function::{FnPtrArg, TypeFnPtr};

@@ -1,3 +1,4 @@
 pub mod Leaves
 pub mod Nodes
 pub mod Nests
+pub mod Mending

@@ -1,6 +1,6 @@
 -- Tokens that become trees of a stream.
 use Rattle.std.proofs.Common.{◌≡◌, ℕ, ◌+◌, ◌<◌, List, [], ◌∷◌, ◌++◌, drop, length, get_or, refl, sym, ap, ◌∙◌}
-use Rattle.std.proofs.Common.{append_assoc, map, codes, IsTrue}
+use Rattle.std.proofs.Common.{append_assoc, arith, length-append, map, codes, IsTrue}
 use Rattle.std.specs.Str.{chars}
 use Rattle.std.proofs.lemmas.Str.{chars-IsAscii}
 use Rattle.unicode_ident.proofs.Computing.{unicode_ident}
@@ -9,7 +9,7 @@ use Rattle.rust_leaf.specs.Identifier.{is_ident_text}
 use Rattle.writer_print.specs.Pieces.{piece_token}
 use Rattle.writer_print.specs.declared.piece.Piece.{Piece}
 use Rattle.writer_print.specs.declared.piece.Piece.TheVariants as pieces
-use Rattle.std.specs.Prelude.{Bool, true, false, ◌&&◌, not, reverse, if◌then◌else◌}
+use Rattle.std.specs.Prelude.{Bool, true, false, ◌&&◌, ◌-◌, not, reverse, if◌then◌else◌, slice_get, Option, Some, None}
 use Rattle.rust_map.specs.declared.span.Span.{Span}
 use Rattle.std.proofs.lemmas.List.{append-nil, length-map, length-reverse, map-append, reverse-append, at_drop_more}
 use Rattle.rust_leaf.specs.Minus.{minus, starts_with_minus}
@@ -65,6 +65,19 @@ literal_signed cs rest e = ap (λ x. is_leaf (Literal x)) e
 
 pub ruleset unsigned = (literal_alone, literal_leaf, literal_signed)
 
+-- the last of the groups that are open
+at_end : (os : List Outer) (o : Outer) → slice_get (os ++ o ∷ []) (length os) ≡ Some o
+at_end [] o = refl
+at_end (p ∷ os) o = at_end os o
+
+pub last_outer : (old os : List Outer) (o p : Outer) → old ≡ os ++ o ∷ []
+    → Some p ≡ slice_get old (length old - 1) → p ≡ o
+last_outer old os o p e f =
+    let n : length old - 1 ≡ length os = omega (arith, ap length e, length-append os (o ∷ [])) in
+    let g : Some p ≡ Some o =
+    f ∙ ap (slice_get old) n ∙ ap (λ xs. slice_get xs (length os)) e ∙ at_end os o in
+    cc
+
 -- a group opens
 pub group_opens : (os new : List Outer) (o : Outer) (before inside : List Spanned) → new ≡ os ++ o ∷ []
     → o.before ≡ before → inside ≡ []
@@ -83,6 +96,13 @@ pub group_spanned : (os new : List Outer) (o : Outer) → new ≡ os ++ o ∷ []
 group_spanned os new o e =
     ap (λ (xs : List Outer). reverse (map (λ x. x.span) xs)) e ∙ turned_more (λ x. x.span) os o
 
+pub group_grouped : (os new : List Outer) (o : Outer) → new ≡ os ++ o ∷ []
+    → reverse {A = Delimiter × Span} (map (λ x. (x.delimiter, x.span)) new)
+    ≡ (o.delimiter, o.span) ∷ reverse {A = Delimiter × Span} (map (λ x. (x.delimiter, x.span)) os)
+group_grouped os new o e =
+    let both : Outer → Delimiter × Span = λ x. (x.delimiter, x.span) in
+    ap (λ (xs : List Outer). reverse (map both xs)) e ∙ turned_more both os o
+
 pub ruleset opens = (group_opened, group_spanned)
 
 -- a group closes
@@ -97,25 +117,28 @@ group_within all front inside rest x y =
     ∙ append_assoc (all ++ front) (x ∷ []) (inside ++ y ∷ rest)
     ∙ append_assoc all front (x ∷ (inside ++ y ∷ rest)))
 
-pub group_closes : (os old : List Outer) (o : Outer) (d : Delimiter) (inside before new : List Spanned) (s : Span)
-    (ps : List Piece) → old ≡ os ++ o ∷ [] → o.delimiter ≡ d → o.span ≡ s → before ≡ o.before
-    → new ≡ before ++ (spanned (Opens d) s ∷ (inside ++ spanned (Closes d) s ∷ []))
+pub group_shut : (os old : List Outer) (o : Outer) (inside new rest : List Spanned) → old ≡ os ++ o ∷ []
+    → new ≡ o.before ++ (spanned (Opens o.delimiter) o.span ∷ (inside ++ spanned (Closes o.delimiter) o.span ∷ []))
+    → (outer_tokens os ++ new) ++ rest ≡ (outer_tokens old ++ inside) ++ (spanned (Closes o.delimiter) o.span ∷ rest)
+group_shut os old o inside new rest e h =
+    let all : List Spanned = outer_tokens os in
+    let opens : Spanned = spanned (Opens o.delimiter) o.span in
+    let closes : Spanned = spanned (Closes o.delimiter) o.span in
+    ap (λ ts. (all ++ ts) ++ rest) h
+    ∙ group_within all o.before inside rest opens closes
+    ∙ sym (ap (λ ts. (ts ++ inside) ++ closes ∷ rest) (ap outer_tokens e ∙ outer_more os o))
+
+pub group_closes : (os old : List Outer) (o : Outer) (d : Delimiter) (inside new : List Spanned) (ps : List Piece)
+    → old ≡ os ++ o ∷ [] → o.delimiter ≡ d
+    → new ≡ o.before ++ (spanned (Opens o.delimiter) o.span ∷ (inside ++ spanned (Closes o.delimiter) o.span ∷ []))
     → (outer_tokens os ++ new) ++ placed (reverse (map (λ x. x.span) os)) ps
     ≡ (outer_tokens old ++ inside) ++ placed (reverse (map (λ x. x.span) old)) (pieces.Close d ∷ ps)
-group_closes os old o d inside before new s ps e f k g h =
-    let all : List Spanned = outer_tokens os in
-    let front : List Spanned = all ++ o.before in
-    let group : List Spanned = spanned (Opens d) s ∷ (inside ++ spanned (Closes d) s ∷ []) in
+group_closes os old o d inside new ps e f h =
     let rest : List Spanned = placed (reverse (map (λ x. x.span) os)) ps in
-    let opens : outer_tokens old ≡ front ++ spanned (Opens d) s ∷ [] =
-    ap outer_tokens e ∙ outer_more os o ∙ ap (λ c. front ++ spanned (Opens c) o.span ∷ []) f
-    ∙ ap (λ t. front ++ spanned (Opens d) t ∷ []) k in
-    let behind : placed (reverse (map (λ x. x.span) old)) (pieces.Close d ∷ ps) ≡ spanned (Closes d) s ∷ rest =
-    ap (λ ss. placed ss (pieces.Close d ∷ ps)) (group_spanned os old o e) ∙ ap (λ t. spanned (Closes d) t ∷ rest) k in
-    ap (λ ts. (all ++ ts) ++ rest) (h ∙ ap (λ ts. ts ++ group) g)
-    ∙ group_within all o.before inside rest (spanned (Opens d) s) (spanned (Closes d) s)
-    ∙ sym (ap (λ ts. (ts ++ inside) ++ placed (reverse (map (λ x. x.span) old)) (pieces.Close d ∷ ps)) opens
-    ∙ ap (λ ts. ((front ++ spanned (Opens d) s ∷ []) ++ inside) ++ ts) behind)
+    group_shut os old o inside new rest e h
+    ∙ sym (ap (λ ts. (outer_tokens old ++ inside) ++ ts)
+    (ap (λ ss. placed ss (pieces.Close d ∷ ps)) (group_spanned os old o e)
+    ∙ ap (λ c. spanned (Closes c) o.span ∷ rest) (sym f)))
 
 pub group_closed : (os old : List Outer) (o : Outer) (d : Delimiter) → old ≡ os ++ o ∷ [] → o.delimiter ≡ d
     → reverse (map (λ x. x.delimiter) old) ≡ d ∷ reverse (map (λ x. x.delimiter) os)
@@ -154,7 +177,7 @@ other_closes os old o d ts e n =
 pub ruleset closes = (group_closed, none_closes, other_closes)
 
 -- behind a token that was put
-same_self : (d : Delimiter) → same_delimiter d d ≡ true
+pub same_self : (d : Delimiter) → same_delimiter d d ≡ true
 same_self delimiter.Parenthesis = refl
 same_self delimiter.Brace = refl
 same_self delimiter.Bracket = refl
@@ -261,7 +284,7 @@ none_left : (ds : List Delimiter) → stand ds [] ≡ true → ds ≡ []
 none_left [] h = refl
 none_left (d ∷ ds) h = cc
 
-none_outer : (os : List Outer) → length os ≡ 0 → os ≡ []
+pub none_outer : (os : List Outer) → length os ≡ 0 → os ≡ []
 none_outer [] e = refl
 none_outer (o ∷ os) e = cc
 

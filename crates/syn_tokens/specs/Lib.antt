@@ -1,4 +1,5 @@
 pub mod Leaves
 pub mod Nodes
 pub mod Nests
+pub mod Mended
 pub mod Places

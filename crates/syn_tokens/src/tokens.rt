@@ -11,7 +11,9 @@ ghost use Rattle.proc_macro2.specs.Token.{Closes, Opens, Token, plain};
 ghost use Rattle.rust_leaf.specs.Leaf.{literal_span, literal_text};
 ghost use Rattle.rust_leaf.specs.Mark.{is_mark};
 ghost use Rattle.proc_macro2.specs.Token as token;
+ghost use Rattle.std.specs.Fmt.{decimal};
 ghost use Rattle.std.specs.Prelude.{◌++◌, ◌∷◌, ◌≡◌, [], IfNone, IfOk, IfSome, IsTrue, List, OnOk, false, map, true};
+ghost use Rattle.syn_tokens.specs.Mended.{as_stream, groups, mended};
 ghost use Rattle.syn_tokens.specs.Nests.{are_trees, is_leaf, opened, stand};
 ghost use Rattle.syn_tokens.specs.Places.{nest_tokens, placed, placed_piece, spans};
 ghost use Rattle.syn_grammar.specs.Kind.{Position};
@@ -80,6 +82,16 @@ fn group_at(delimiter: Delimiter, span: Span, inside: TokenStream) -> Group
     group
 }
 
+// A number in plain decimal that stands there.
+fn number_at(alloc: Global, number: u32, span: Span) -> Result<Literal, AllocError>
+    ensures text { IfOk result (λ l. literal_text l ≡ decimal number) }
+    ensures place { IfOk result (λ l. literal_span l ≡ span) }
+{
+    let mut literal = Literal::u32_unsuffixed(alloc, number)?;
+    literal.set_span(span);
+    Ok(literal)
+}
+
 // The tree that a token is by itself, if it is one.
 #[tactic(auto, using(crate::proofs::Nests::words))]
 fn leaf(alloc: Global, piece: &Piece<'_>) -> Result<Option<TokenTree>, AllocError>
@@ -94,11 +106,7 @@ fn leaf(alloc: Global, piece: &Piece<'_>) -> Result<Option<TokenTree>, AllocErro
             Ok(Some(TokenTree::Ident(word)))
         }
         Piece::Literal(literal) => Ok(unsigned(literal.try_clone()?)),
-        Piece::Index(index, span) => {
-            let mut literal = Literal::u32_unsuffixed(alloc, *index)?;
-            literal.set_span(*span);
-            Ok(unsigned(literal))
-        }
+        Piece::Index(index, span) => Ok(unsigned(number_at(alloc, *index, *span)?)),
         Piece::Mark(mark, spacing, span) => {
             if Punct::is_mark(*mark) {
                 Ok(Some(mark_at(*mark, *spacing, *span)))
@@ -117,6 +125,7 @@ impl Nest {
         ensures put { OnOk result (nest_tokens self.new ≡ nest_tokens self.old ++ entered tree) }
         ensures opened { OnOk result (opened self.new ≡ opened self.old) }
         ensures spans { OnOk result (spans self.new ≡ spans self.old) }
+        ensures groups { OnOk result (groups self.new ≡ groups self.old) }
     {
         self.inside.push_tree(tree)
     }
@@ -127,6 +136,7 @@ impl Nest {
         ensures put { OnOk result (nest_tokens self.new ≡ nest_tokens self.old ++ spanned (Opens delimiter) span ∷ []) }
         ensures opened { OnOk result (opened self.new ≡ delimiter ∷ opened self.old) }
         ensures spans { OnOk result (spans self.new ≡ span ∷ spans self.old) }
+        ensures groups { OnOk result (groups self.new ≡ (delimiter, span) ∷ groups self.old) }
     {
         let inside = TokenStream::new(self.inside.allocator());
         let before = mem::replace(&mut self.inside, inside);
@@ -138,7 +148,7 @@ impl Nest {
         Ok(())
     }
 
-    // Closes the innermost group, and answers whether it is one with that delimiter.
+    // Closes the innermost group, if it is one with that delimiter, and answers whether it is.
     #[tactic(auto, using(crate::proofs::Nests::closes))]
     fn close(&mut self, delimiter: Delimiter) -> Result<bool, AllocError>
         ensures put { IfOk result (λ b. b ≡ true → (ps : List GivenPiece)
@@ -147,35 +157,56 @@ impl Nest {
         ensures opened { IfOk result (λ b. b ≡ true → opened self.old ≡ delimiter ∷ opened self.new) }
         ensures refused { IfOk result (λ b. b ≡ false
             → (ts : List Token) → stand (opened self.old) (Closes delimiter ∷ ts) ≡ false) }
+        ensures mended { OnOk result ((ps : List GivenPiece) → nest_tokens self.new ++ mended (groups self.new) ps
+            ≡ nest_tokens self.old ++ mended (groups self.old) (a_piece.Close delimiter ∷ ps)) }
     {
-        let Some(outer) = self.outer.pop() else {
+        let Some(last) = self.outer.last() else {
             return Ok(false);
         };
-        if outer.delimiter == delimiter {
-            let inside = mem::replace(&mut self.inside, outer.before);
-            let group = group_at(delimiter, outer.span, inside);
-            self.inside.push_tree(TokenTree::Group(group))?;
+        if last.delimiter == delimiter {
+            let Some(outer) = self.outer.pop() else {
+                return Ok(false);
+            };
+            self.end(outer)?;
             Ok(true)
         } else {
             Ok(false)
         }
     }
 
-    // Puts what can be made of a token that may not stand there: of a literal with a minus two tokens, of others none.
-    fn loosely(&mut self, piece: &Piece<'_>) -> Result<(), AllocError> {
-        match piece {
-            Piece::Literal(literal) => self.put(TokenTree::Literal(literal.try_clone()?)),
-            _ => Ok(()),
-        }
-    }
-
-    // Closes the innermost group, which was open at the end.
+    // Closes a group, which was the innermost one.
     fn end(&mut self, outer: Outer) -> Result<(), AllocError>
-        ensures { self.new.outer ≡ self.old.outer }
+        ensures outer { self.new.outer ≡ self.old.outer }
+        ensures put { OnOk result (self.new.inside ≡ outer.before ++ (spanned (Opens outer.delimiter) outer.span
+            ∷ (self.old.inside ++ spanned (Closes outer.delimiter) outer.span ∷ []))) }
     {
         let inside = mem::replace(&mut self.inside, outer.before);
         let group = group_at(outer.delimiter, outer.span, inside);
         self.inside.push_tree(TokenTree::Group(group))
+    }
+
+    // Puts what a stream has of a token, wherever that stands.
+    #[tactic(auto, using(crate::proofs::Mending::mends))]
+    fn put_piece(&mut self, piece: &Piece<'_>) -> Result<(), AllocError>
+        ensures { OnOk result ((ps : List GivenPiece) → nest_tokens self.new ++ mended (groups self.new) ps
+            ≡ nest_tokens self.old ++ mended (groups self.old) (piece.now ∷ ps)) }
+    {
+        match piece {
+            Piece::Open(delimiter, span) => self.open(*delimiter, *span),
+            Piece::Close(delimiter) => {
+                self.close(*delimiter)?;
+                Ok(())
+            }
+            Piece::Literal(literal) => self.put(TokenTree::Literal(literal.try_clone()?)),
+            Piece::Index(index, span) => {
+                let number = number_at(self.inside.allocator(), *index, *span)?;
+                self.put(TokenTree::Literal(number))
+            }
+            _ => match leaf(self.inside.allocator(), piece)? {
+                Some(tree) => self.put(tree),
+                None => Ok(()),
+            },
+        }
     }
 
     // Puts a token, if it may stand there.
@@ -235,26 +266,24 @@ pub fn stream_of(alloc: Global, pieces: &[Piece<'_>]) -> Result<Option<TokenStre
     }
 }
 
-/// The stream of tokens that are to be written, as `stream_of` gives it. Where they are those of no stream, it is what
-/// can be made of them: a literal that begins with a minus is that mark and the literal behind it, what closes no group
-/// that is open there is left out, and what is open at the end is closed.
+/// The stream that is made of tokens that are to be written, whatever they are, each where it was read, as in
+/// `stream_of`. A literal that begins with a minus is that mark and the literal behind it, both where it stands. A mark
+/// that is none and what closes no group that is open there are left out, and what is open at the end is closed.
 ///
 /// # Errors
 ///
 /// Where there is no memory for it.
+#[tactic(auto, using(crate::proofs::Mending::goes))]
 pub fn stream_with(alloc: Global, pieces: &[Piece<'_>]) -> Result<TokenStream, AllocError>
-    ensures tokens { are_trees (map piece_token pieces.now) ≡ true
-        → IfOk result (λ s. plain s ≡ map piece_token pieces.now) }
-    ensures places { are_trees (map piece_token pieces.now) ≡ true → IfOk result (λ s. s ≡ placed [] pieces.now) }
+    ensures tokens { IfOk result (λ s. plain s ≡ as_stream [] (map piece_token pieces.now)) }
+    ensures places { IfOk result (λ s. s ≡ mended [] pieces.now) }
 {
     let mut nest = Nest {
         outer: Vec::new(alloc),
         inside: TokenStream::new(alloc),
     };
     for piece in pieces {
-        if !nest.step(piece)? {
-            nest.loosely(piece)?;
-        }
+        nest.put_piece(piece)?;
     }
     while let Some(outer) = nest.outer.pop() {
         nest.end(outer)?;
