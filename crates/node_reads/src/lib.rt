@@ -13,6 +13,7 @@ ghost use Rattle.node_traits.specs.Reads.{NoneStands, ReadAs};
 pub mod below;
 pub mod by;
 pub mod closed;
+mod derived;
 mod expressions;
 mod generics;
 pub mod grown;

@@ -3,8 +3,7 @@
 use anyhow::{Result, anyhow};
 use std::alloc::Global;
 use syn_nodes::{
-    Data, DeriveInput, Fields, GenericParam, Generics, Ident, ItemImpl, Member, SourceMap,
-    ToTokens, parse_str,
+    Data, DeriveInput, Fields, GenericParam, Generics, Ident, ItemImpl, Member, SourceMap, ToTokens, parse_str,
 };
 
 // Puts a name with its parameters as arguments.

@@ -3,10 +3,9 @@
 use anyhow::Result;
 use std::alloc::Global;
 use syn_nodes::{
-    Arm, Block, Expr, ExprLit, ExprMatch, ExprPath, Fields, File, FnModifiers, Generics, Ident,
-    Item, ItemEnum, ItemFn, Lit, Literal, Node, Pat, PatPath, Path, PathArguments, PathSegment,
-    Punctuated, ReturnType, Safety, Signature, Span, Stmt, ToTokens, TypePath, Variant, Visibility,
-    token,
+    Arm, Block, Expr, ExprLit, ExprMatch, ExprPath, Fields, File, FnModifiers, Generics, Ident, Item, ItemEnum, ItemFn,
+    Lit, Literal, Node, Pat, PatPath, Path, PathArguments, PathSegment, Punctuated, ReturnType, Safety, Signature, Span,
+    Stmt, ToTokens, TypePath, Variant, Visibility, token,
 };
 
 fn name(alloc: Global, text: &str) -> Result<Ident> {
@@ -17,25 +16,14 @@ fn name(alloc: Global, text: &str) -> Result<Ident> {
 fn path(alloc: Global, names: &[&str]) -> Result<Path> {
     let mut segments = Punctuated::new(alloc);
     for text in names {
-        segments.push(PathSegment {
-            ident: name(alloc, text)?,
-            arguments: PathArguments::None,
-        })?;
+        segments.push(PathSegment { ident: name(alloc, text)?, arguments: PathArguments::None })?;
     }
-    Ok(Path {
-        leading_colon: None,
-        segments,
-    })
+    Ok(Path { leading_colon: None, segments })
 }
 
 // A variant without fields.
 fn variant(alloc: Global, text: &str) -> Result<Variant> {
-    Ok(Variant {
-        attrs: Vec::new(alloc),
-        ident: name(alloc, text)?,
-        fields: Fields::Unit,
-        discriminant: None,
-    })
+    Ok(Variant { attrs: Vec::new(alloc), ident: name(alloc, text)?, fields: Fields::Unit, discriminant: None })
 }
 
 // The enum of those words.
@@ -57,24 +45,14 @@ fn words(alloc: Global, each: &[&str]) -> Result<ItemEnum> {
 
 // The arm of a word: `Word::Hi => "Hi",`.
 fn arm(alloc: Global, text: &str) -> Result<Arm> {
-    let pat = PatPath {
-        attrs: Vec::new(alloc),
-        qself: None,
-        path: path(alloc, &["Word", text])?,
-    };
+    let pat = PatPath { attrs: Vec::new(alloc), qself: None, path: path(alloc, &["Word", text])? };
     let lit = Lit::new(Literal::string(alloc, text)?);
     Ok(Arm {
         attrs: Vec::new(alloc),
         pat: Node::from_pat(alloc, Pat::from(pat))?,
         guard: None,
         fat_arrow_token: token::FatArrow::default(),
-        body: Node::from_expr(
-            alloc,
-            Expr::from(ExprLit {
-                attrs: Vec::new(alloc),
-                lit,
-            }),
-        )?,
+        body: Node::from_expr(alloc, Expr::from(ExprLit { attrs: Vec::new(alloc), lit }))?,
         comma: Some(token::Comma::default()),
     })
 }
@@ -85,11 +63,7 @@ fn matched(alloc: Global, each: &[&str]) -> Result<ExprMatch> {
     for text in each {
         arms.push(arm(alloc, text)?)?;
     }
-    let word = ExprPath {
-        attrs: Vec::new(alloc),
-        qself: None,
-        path: path(alloc, &["WORD"])?,
-    };
+    let word = ExprPath { attrs: Vec::new(alloc), qself: None, path: path(alloc, &["WORD"])? };
     Ok(ExprMatch {
         attrs: Vec::new(alloc),
         match_token: token::Match::default(),
@@ -102,14 +76,8 @@ fn matched(alloc: Global, each: &[&str]) -> Result<ExprMatch> {
 // The function `said`.
 fn said(alloc: Global, each: &[&str]) -> Result<ItemFn> {
     let mut stmts = Vec::new(alloc);
-    stmts.push(Stmt::Expr(
-        Node::from_expr(alloc, Expr::from(matched(alloc, each)?))?,
-        None,
-    ))?;
-    let ty = TypePath {
-        qself: None,
-        path: path(alloc, &["Said"])?,
-    };
+    stmts.push(Stmt::Expr(Node::from_expr(alloc, Expr::from(matched(alloc, each)?))?, None))?;
+    let ty = TypePath { qself: None, path: path(alloc, &["Said"])? };
     Ok(ItemFn {
         attrs: Vec::new(alloc),
         vis: Visibility::Inherited,
@@ -125,18 +93,9 @@ fn said(alloc: Global, each: &[&str]) -> Result<ItemFn> {
             paren_token: token::Paren::default(),
             inputs: Punctuated::new(alloc),
             variadic: None,
-            output: ReturnType::Type(
-                token::RArrow::default(),
-                Node::from_type(alloc, syn_nodes::Type::from(ty))?,
-            ),
+            output: ReturnType::Type(token::RArrow::default(), Node::from_type(alloc, syn_nodes::Type::from(ty))?),
         },
-        block: Box::new(
-            alloc,
-            Block {
-                brace_token: token::Brace::default(),
-                stmts,
-            },
-        )?,
+        block: Box::new(alloc, Block { brace_token: token::Brace::default(), stmts })?,
     })
 }
 
@@ -147,12 +106,7 @@ pub(crate) fn put(text: &str, out: &mut String) -> Result<()> {
     for word in text.split_whitespace() {
         each.push(word)?;
     }
-    let mut file = File {
-        shebang: None,
-        frontmatter: None,
-        attrs: Vec::new(alloc),
-        items: Vec::new(alloc),
-    };
+    let mut file = File { shebang: None, frontmatter: None, attrs: Vec::new(alloc), items: Vec::new(alloc) };
     file.items.push(Item::from(words(alloc, each.as_slice())?))?;
     file.items.push(Item::from(said(alloc, each.as_slice())?))?;
     Ok(writeln!(out, "{}", file.to_token_stream(alloc)?)?)

@@ -6,9 +6,7 @@ use syn_nodes::{Expr, LineColumn, Node, SourceMap, each, parse_file};
 // Where the method's name stands, if that is a call of `unwrap`.
 fn unwrapped(map: &SourceMap, node: &Node) -> Option<LineColumn> {
     match node.as_expr() {
-        Some(Expr::MethodCall(call)) if call.method.is_text("unwrap") => Some(
-            call.method.span().start(map),
-        ),
+        Some(Expr::MethodCall(call)) if call.method.is_text("unwrap") => Some(call.method.span().start(map)),
         _ => None,
     }
 }

@@ -4,8 +4,8 @@
 use anyhow::Result;
 use std::alloc::{AllocError, Global};
 use syn_nodes::{
-    Expr, FnArg, Ident, Item, ItemFn, ItemStruct, Node, Pat, SourceMap, Span, ToTokens, TryClone,
-    Visibility, each, parse_file, token,
+    Expr, FnArg, Ident, Item, ItemFn, ItemStruct, Node, Pat, SourceMap, Span, ToTokens, TryClone, Visibility, each,
+    parse_file, token,
 };
 
 // Makes each field public.
@@ -17,10 +17,7 @@ fn make_public(item: &mut ItemStruct) {
 
 // The name of a parameter, if it is one.
 fn name_of(parameter: &mut FnArg) -> Option<&mut Ident> {
-    if let FnArg::Typed(typed) = parameter
-        && let Node::Pat(pat) = &mut typed.pat
-        && let Pat::Ident(name) = &mut **pat
-    {
+    if let FnArg::Typed(typed) = parameter && let Node::Pat(pat) = &mut typed.pat && let Pat::Ident(name) = &mut **pat {
         return Some(&mut name.ident);
     }
     None
@@ -28,11 +25,8 @@ fn name_of(parameter: &mut FnArg) -> Option<&mut Ident> {
 
 // Gives a path of one old name the new one.
 fn rename(node: &mut Node, old: &Ident, new: &Ident) -> Result<(), AllocError> {
-    if let Node::Expr(expr) = node
-        && let Expr::Path(expr) = &mut **expr
-        && expr.path.segments.len() == 1
-        && let Some(segment) = expr.path.segments.first_mut()
-        && segment.ident == *old
+    if let Node::Expr(expr) = node && let Expr::Path(expr) = &mut **expr && expr.path.segments.len() == 1
+        && let Some(segment) = expr.path.segments.first_mut() && segment.ident == *old
     {
         segment.ident = new.try_clone()?;
     }

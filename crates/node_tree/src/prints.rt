@@ -1,15 +1,17 @@
-//! Items and files that are printed.
+//! Nodes, items and files that are printed.
 
 ghost use Rattle.node_print.specs.Puts.{PutsNormal};
 ghost use Rattle.node_tree.specs.Views.{item_view};
-ghost use Rattle.node_tree.specs.Wholes.{file_view};
+ghost use Rattle.node_tree.specs.Wholes.{alone_view, file_view};
 
 use crate::file::File;
 use crate::item::Item;
 use crate::node::Node;
 use node_prints::{TreePrinter, Trees};
 use node_to::attributes::inner_attributes;
+use node_to::step::expression;
 use node_to::to_tree::ToTree;
+use node_to_blocks::expr::expr;
 use node_to_items::module::file_of;
 use node_traits::Prints;
 use proc_macro2::tree::TokenStream;
@@ -31,6 +33,26 @@ impl ToTokens for Item {
 
     fn to_tokens(&self, tokens: &mut TokenStream) -> Result<(), AllocError> {
         <TreePrinter<Node> as Prints<Item>>::print(self, tokens)
+    }
+}
+
+impl Trees<Node> for TreePrinter<Node> {
+    ghost view = { alone_view };
+
+    fn tree<'a>(value: &'a Node, arena: &'a Arena) -> Result<Tree<'a>, AllocError> {
+        match value {
+            Node::Expr(form) => expression(arena, expr(arena, &**form)),
+            _ => value.to_tree(arena),
+        }
+    }
+}
+
+impl ToTokens for Node {
+    ghost puts = { PutsNormal alone_view };
+
+    /// Adds the tokens of the expression, the item, the pattern or the type that it is, or of what an attribute holds.
+    fn to_tokens(&self, tokens: &mut TokenStream) -> Result<(), AllocError> {
+        <TreePrinter<Node> as Prints<Node>>::print(self, tokens)
     }
 }
 

@@ -2,6 +2,7 @@
 
 use crate::round::put_print;
 use node_expressions::{Arm, Block, Expr, Stmt};
+use node_paths::Attribute;
 use node_prints::TreePrinter;
 use node_reads::TreeReader;
 use node_tree::Node;
@@ -30,9 +31,27 @@ fn is_marked(node: &Node) -> bool {
 // The expression in the parentheses that a node is.
 fn into_inside(node: Node) -> Node {
     match node.into_expr() {
-        Ok(Expr::Paren(paren)) => paren.expr,
+        Ok(Expr::Paren(paren)) => attributed(paren.attrs, paren.expr),
         _ => unreachable!(),
     }
+}
+
+// A node with other attributes, if it is one of some forms.
+fn attributed(attrs: Vec<Attribute<Node>>, mut node: Node) -> Node {
+    if attrs.is_empty() {
+        return node;
+    }
+    if let Node::Expr(form) = &mut node {
+        match &mut **form {
+            Expr::Paren(form) => form.attrs = attrs,
+            Expr::Binary(form) => form.attrs = attrs,
+            Expr::Range(form) => form.attrs = attrs,
+            Expr::Field(form) => form.attrs = attrs,
+            Expr::Macro(form) => form.attrs = attrs,
+            _ => unreachable!(),
+        }
+    }
+    node
 }
 
 // Takes the marks away from a node and from all that is below it.

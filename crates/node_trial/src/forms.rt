@@ -1,126 +1,15 @@
 //! Values of enums, printed as the structs that they are.
 
+use node_expressions::{Expr, ExprArray, ExprAssign, ExprAsync, ExprAwait, ExprBinary, ExprBlock, ExprBreak, ExprCall, ExprCast, ExprClosure, ExprConst, ExprContinue, ExprField, ExprForLoop, ExprGroup, ExprIf, ExprIndex, ExprInfer, ExprLet, ExprLit, ExprLoop, ExprMacro, ExprMatch, ExprMethodCall, ExprParen, ExprPath, ExprRange, ExprRawAddr, ExprReference, ExprRepeat, ExprReturn, ExprStruct, ExprTry, ExprTryBlock, ExprTuple, ExprUnary, ExprUnsafe, ExprWhile, ExprYield, Local, Stmt, StmtMacro};
+use node_generics::{ConstParam, GenericParam, PredicateType, TypeParam, WherePredicate};
+use node_items::{FnArg, ForeignItem, ForeignItemFn, ForeignItemMacro, ForeignItemStatic, ForeignItemType, ImplItem, ImplItemConst, ImplItemFn, ImplItemMacro, ImplItemType, ItemConst, ItemEnum, ItemExternCrate, ItemFn, ItemForeignMod, ItemImpl, ItemMacro, ItemMod, ItemStatic, ItemStruct, ItemTrait, ItemTraitAlias, ItemType, ItemUnion, ItemUse, Receiver, TraitItem, TraitItemConst, TraitItemFn, TraitItemMacro, TraitItemType};
+use node_paths::{AssocType, GenericArgument, LifetimeParam, Meta, MetaList, MetaNameValue, Path, TraitBound, TypeParamBound};
+use node_patterns::{Pat, PatIdent, PatLit, PatOr, PatParen, PatPath, PatRange, PatReference, PatRest, PatSlice, PatStruct, PatTuple, PatTupleStruct, PatType, PatWild};
+use node_types::{Type, TypeArray, TypeFnPtr, TypeImplTrait, TypeParen, TypePath, TypePtr, TypeReference, TypeSlice, TypeTraitObject, TypeTuple};
 use crate::round::put_print;
-use node_expressions::Expr;
-use node_expressions::ExprArray;
-use node_expressions::ExprAssign;
-use node_expressions::ExprAsync;
-use node_expressions::ExprAwait;
-use node_expressions::ExprBinary;
-use node_expressions::ExprBlock;
-use node_expressions::ExprBreak;
-use node_expressions::ExprCall;
-use node_expressions::ExprCast;
-use node_expressions::ExprClosure;
-use node_expressions::ExprConst;
-use node_expressions::ExprContinue;
-use node_expressions::ExprField;
-use node_expressions::ExprForLoop;
-use node_expressions::ExprGroup;
-use node_expressions::ExprIf;
-use node_expressions::ExprIndex;
-use node_expressions::ExprInfer;
-use node_expressions::ExprLet;
-use node_expressions::ExprLit;
-use node_expressions::ExprLoop;
-use node_expressions::ExprMacro;
-use node_expressions::ExprMatch;
-use node_expressions::ExprMethodCall;
-use node_expressions::ExprParen;
-use node_expressions::ExprPath;
-use node_expressions::ExprRange;
-use node_expressions::ExprRawAddr;
-use node_expressions::ExprReference;
-use node_expressions::ExprRepeat;
-use node_expressions::ExprReturn;
-use node_expressions::ExprStruct;
-use node_expressions::ExprTry;
-use node_expressions::ExprTryBlock;
-use node_expressions::ExprTuple;
-use node_expressions::ExprUnary;
-use node_expressions::ExprUnsafe;
-use node_expressions::ExprWhile;
-use node_expressions::ExprYield;
-use node_expressions::Local;
-use node_expressions::Stmt;
-use node_expressions::StmtMacro;
-use node_generics::ConstParam;
-use node_generics::GenericParam;
-use node_generics::PredicateType;
-use node_generics::TypeParam;
-use node_generics::WherePredicate;
-use node_items::FnArg;
-use node_items::ForeignItem;
-use node_items::ForeignItemFn;
-use node_items::ForeignItemMacro;
-use node_items::ForeignItemStatic;
-use node_items::ForeignItemType;
-use node_items::ImplItem;
-use node_items::ImplItemConst;
-use node_items::ImplItemFn;
-use node_items::ImplItemMacro;
-use node_items::ImplItemType;
-use node_items::ItemConst;
-use node_items::ItemEnum;
-use node_items::ItemExternCrate;
-use node_items::ItemFn;
-use node_items::ItemForeignMod;
-use node_items::ItemImpl;
-use node_items::ItemMacro;
-use node_items::ItemMod;
-use node_items::ItemStatic;
-use node_items::ItemStruct;
-use node_items::ItemTrait;
-use node_items::ItemTraitAlias;
-use node_items::ItemType;
-use node_items::ItemUnion;
-use node_items::ItemUse;
-use node_items::Receiver;
-use node_items::TraitItem;
-use node_items::TraitItemConst;
-use node_items::TraitItemFn;
-use node_items::TraitItemMacro;
-use node_items::TraitItemType;
-use node_paths::AssocType;
-use node_paths::GenericArgument;
-use node_paths::LifetimeParam;
-use node_paths::Meta;
-use node_paths::MetaList;
-use node_paths::MetaNameValue;
-use node_paths::Path;
-use node_paths::TraitBound;
-use node_paths::TypeParamBound;
-use node_patterns::Pat;
-use node_patterns::PatIdent;
-use node_patterns::PatLit;
-use node_patterns::PatOr;
-use node_patterns::PatParen;
-use node_patterns::PatPath;
-use node_patterns::PatRange;
-use node_patterns::PatReference;
-use node_patterns::PatRest;
-use node_patterns::PatSlice;
-use node_patterns::PatStruct;
-use node_patterns::PatTuple;
-use node_patterns::PatTupleStruct;
-use node_patterns::PatType;
-use node_patterns::PatWild;
 use node_prints::TreePrinter;
-use node_tree::Item;
-use node_tree::Node;
-use node_types::Type;
-use node_types::TypeArray;
-use node_types::TypeFnPtr;
-use node_types::TypeImplTrait;
-use node_types::TypeParen;
-use node_types::TypePath;
-use node_types::TypePtr;
-use node_types::TypeReference;
-use node_types::TypeSlice;
-use node_types::TypeTraitObject;
-use node_types::TypeTuple;
-use test_support::Page;
-use test_support::Unanswered;
+use node_tree::{Item, Node};
+use test_support::{Page, Unanswered};
 
 /// Puts the print of the struct that it is.
 pub(crate) fn put_expr(value: &Expr<Node>, page: &mut Page) -> Result<(), Unanswered> {
@@ -179,9 +68,7 @@ pub(crate) fn put_type(value: &Type<Node>, page: &mut Page) -> Result<(), Unansw
         Type::Ptr(node) => put_print::<TypePtr<Node>, TreePrinter<Node>>(node, page),
         Type::Reference(node) => put_print::<TypeReference<Node>, TreePrinter<Node>>(node, page),
         Type::Slice(node) => put_print::<TypeSlice<Node>, TreePrinter<Node>>(node, page),
-        Type::TraitObject(node) => put_print::<TypeTraitObject<Node>, TreePrinter<Node>>(
-            node, page,
-        ),
+        Type::TraitObject(node) => put_print::<TypeTraitObject<Node>, TreePrinter<Node>>(node, page),
         Type::Tuple(node) => put_print::<TypeTuple<Node>, TreePrinter<Node>>(node, page),
         _ => put_print::<Type<Node>, TreePrinter<Node>>(value, page),
     }
@@ -212,9 +99,7 @@ pub(crate) fn put_item(value: &Item, page: &mut Page) -> Result<(), Unanswered> 
     match value {
         Item::Const(node) => put_print::<ItemConst<Node>, TreePrinter<Node>>(node, page),
         Item::Enum(node) => put_print::<ItemEnum<Node>, TreePrinter<Node>>(node, page),
-        Item::ExternCrate(node) => put_print::<ItemExternCrate<Node>, TreePrinter<Node>>(
-            node, page,
-        ),
+        Item::ExternCrate(node) => put_print::<ItemExternCrate<Node>, TreePrinter<Node>>(node, page),
         Item::Fn(node) => put_print::<ItemFn<Node>, TreePrinter<Node>>(node, page),
         Item::ForeignMod(node) => put_print::<ItemForeignMod<Node>, TreePrinter<Node>>(node, page),
         Item::Impl(node) => put_print::<ItemImpl<Node>, TreePrinter<Node>>(node, page),
@@ -232,21 +117,12 @@ pub(crate) fn put_item(value: &Item, page: &mut Page) -> Result<(), Unanswered> 
 }
 
 /// Puts the print of the struct that it is.
-pub(crate) fn put_foreign_item(
-    value: &ForeignItem<Node>,
-    page: &mut Page,
-) -> Result<(), Unanswered> {
+pub(crate) fn put_foreign_item(value: &ForeignItem<Node>, page: &mut Page) -> Result<(), Unanswered> {
     match value {
         ForeignItem::Fn(node) => put_print::<ForeignItemFn<Node>, TreePrinter<Node>>(node, page),
-        ForeignItem::Static(node) => put_print::<ForeignItemStatic<Node>, TreePrinter<Node>>(
-            node, page,
-        ),
-        ForeignItem::Type(node) => put_print::<ForeignItemType<Node>, TreePrinter<Node>>(
-            node, page,
-        ),
-        ForeignItem::Macro(node) => put_print::<ForeignItemMacro<Node>, TreePrinter<Node>>(
-            node, page,
-        ),
+        ForeignItem::Static(node) => put_print::<ForeignItemStatic<Node>, TreePrinter<Node>>(node, page),
+        ForeignItem::Type(node) => put_print::<ForeignItemType<Node>, TreePrinter<Node>>(node, page),
+        ForeignItem::Macro(node) => put_print::<ForeignItemMacro<Node>, TreePrinter<Node>>(node, page),
         _ => put_print::<ForeignItem<Node>, TreePrinter<Node>>(value, page),
     }
 }
@@ -274,37 +150,24 @@ pub(crate) fn put_impl_item(value: &ImplItem<Node>, page: &mut Page) -> Result<(
 }
 
 /// Puts the print of the struct that it is.
-pub(crate) fn put_generic_param(
-    value: &GenericParam<Node>,
-    page: &mut Page,
-) -> Result<(), Unanswered> {
+pub(crate) fn put_generic_param(value: &GenericParam<Node>, page: &mut Page) -> Result<(), Unanswered> {
     match value {
-        GenericParam::Lifetime(node) => put_print::<LifetimeParam<Node>, TreePrinter<Node>>(
-            node, page,
-        ),
+        GenericParam::Lifetime(node) => put_print::<LifetimeParam<Node>, TreePrinter<Node>>(node, page),
         GenericParam::Type(node) => put_print::<TypeParam<Node>, TreePrinter<Node>>(node, page),
         GenericParam::Const(node) => put_print::<ConstParam<Node>, TreePrinter<Node>>(node, page),
     }
 }
 
 /// Puts the print of the struct that it is.
-pub(crate) fn put_where_predicate(
-    value: &WherePredicate<Node>,
-    page: &mut Page,
-) -> Result<(), Unanswered> {
+pub(crate) fn put_where_predicate(value: &WherePredicate<Node>, page: &mut Page) -> Result<(), Unanswered> {
     match value {
-        WherePredicate::Type(node) => put_print::<PredicateType<Node>, TreePrinter<Node>>(
-            node, page,
-        ),
+        WherePredicate::Type(node) => put_print::<PredicateType<Node>, TreePrinter<Node>>(node, page),
         _ => put_print::<WherePredicate<Node>, TreePrinter<Node>>(value, page),
     }
 }
 
 /// Puts the print of the struct that it is.
-pub(crate) fn put_type_param_bound(
-    value: &TypeParamBound<Node>,
-    page: &mut Page,
-) -> Result<(), Unanswered> {
+pub(crate) fn put_type_param_bound(value: &TypeParamBound<Node>, page: &mut Page) -> Result<(), Unanswered> {
     match value {
         TypeParamBound::Trait(node) => put_print::<TraitBound<Node>, TreePrinter<Node>>(node, page),
         _ => put_print::<TypeParamBound<Node>, TreePrinter<Node>>(value, page),
@@ -321,14 +184,9 @@ pub(crate) fn put_meta(value: &Meta<Node>, page: &mut Page) -> Result<(), Unansw
 }
 
 /// Puts the print of the struct that it is.
-pub(crate) fn put_generic_argument(
-    value: &GenericArgument<Node>,
-    page: &mut Page,
-) -> Result<(), Unanswered> {
+pub(crate) fn put_generic_argument(value: &GenericArgument<Node>, page: &mut Page) -> Result<(), Unanswered> {
     match value {
-        GenericArgument::AssocType(node) => put_print::<AssocType<Node>, TreePrinter<Node>>(
-            node, page,
-        ),
+        GenericArgument::AssocType(node) => put_print::<AssocType<Node>, TreePrinter<Node>>(node, page),
         _ => put_print::<GenericArgument<Node>, TreePrinter<Node>>(value, page),
     }
 }

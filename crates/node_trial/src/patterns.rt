@@ -2,11 +2,9 @@
 
 ghost use Rattle.node_tree.specs.Views.{node_view};
 ghost use Rattle.node_views.specs.Patterns as patterns;
-ghost use Rattle.node_views.specs.Singles as singles;
 ghost use Rattle.syn_grammar.specs.Kind as k;
 
-use node_from_patterns::dispatch::{one_pattern, pattern};
-use node_from_singles::others::one_multi;
+use node_from_patterns::dispatch::pattern;
 use node_patterns::Pat;
 use node_read::Makes;
 use node_reads::Inside;
@@ -29,39 +27,5 @@ impl Makes<Pat<Node>> for WholePat {
 
     fn make(alloc: Global, tree: &Tree<'_>) -> Result<Pat<Node>, AllocError> {
         pattern(&Inside::new(alloc, tree), tree)
-    }
-}
-
-/// A pattern of one alternative or of several.
-pub(crate) struct SeveralPats;
-
-impl Makes<Pat<Node>> for SeveralPats {
-    ghost kind = { k.SeveralPatterns };
-
-    ghost view = { singles.one_multi node_view };
-
-    fn kind() -> Kind {
-        Kind::SeveralPatterns
-    }
-
-    fn make(alloc: Global, tree: &Tree<'_>) -> Result<Pat<Node>, AllocError> {
-        one_multi(&Inside::new(alloc, tree), tree)
-    }
-}
-
-/// A pattern of one alternative.
-pub(crate) struct OnePat;
-
-impl Makes<Pat<Node>> for OnePat {
-    ghost kind = { k.OnePattern };
-
-    ghost view = { patterns.pat node_view };
-
-    fn kind() -> Kind {
-        Kind::OnePattern
-    }
-
-    fn make(alloc: Global, tree: &Tree<'_>) -> Result<Pat<Node>, AllocError> {
-        one_pattern(&Inside::new(alloc, tree), tree)
     }
 }

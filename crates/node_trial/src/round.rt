@@ -1,16 +1,16 @@
 //! A text, read as a value of a type and printed again.
 
 use node_read::{Makes, read};
-use node_traits::{Prints, Reads};
+use node_traits::Prints;
 use proc_macro2::{SourceMap, TokenStream};
 use std::alloc::Global;
 use syn_buffer::TokenBuffer;
-use syn_error::ParseFault;
-use syn_input::ParseBuffer;
+use syn_error::{ParseFault, ToTokens};
+use syn_input::{Parse, ParseBuffer};
 use test_support::{Page, Unanswered};
 
-// Puts a stream as it is printed.
-fn put_stream(stream: &TokenStream, page: &mut Page) -> Result<(), Unanswered> {
+/// Puts a stream as it is printed.
+pub(crate) fn put_stream(stream: &TokenStream, page: &mut Page) -> Result<(), Unanswered> {
     let mut text = Page::new(page.alloc());
     text.show(stream);
     page.quote(text.whole()?);
@@ -18,17 +18,14 @@ fn put_stream(stream: &TokenStream, page: &mut Page) -> Result<(), Unanswered> {
 }
 
 /// Puts the print of a value.
-pub(crate) fn put_print<T: Drop, P: Prints<T>>(
-    value: &T,
-    page: &mut Page,
-) -> Result<(), Unanswered> {
+pub(crate) fn put_print<T: Drop, P: Prints<T>>(value: &T, page: &mut Page) -> Result<(), Unanswered> {
     let mut tokens = TokenStream::new(page.alloc());
     P::print(value, &mut tokens)?;
     put_stream(&tokens, page)
 }
 
-// Puts what is left, if anything is.
-fn put_left(input: &mut ParseBuffer<'_>, page: &mut Page) -> Result<(), Unanswered> {
+/// Puts what is left, if anything is.
+pub(crate) fn put_left(input: &mut ParseBuffer<'_>, page: &mut Page) -> Result<(), Unanswered> {
     if input.is_empty() {
         return Ok(());
     }
@@ -36,25 +33,6 @@ fn put_left(input: &mut ParseBuffer<'_>, page: &mut Page) -> Result<(), Unanswer
     match input.parse::<TokenStream>() {
         Ok(rest) => put_stream(&rest, page),
         Err(_) => Err(Unanswered::Cut),
-    }
-}
-
-// Puts the print of what was read, and what is left.
-fn put_front<T: Drop, P: Prints<T>>(
-    found: Result<T, ParseFault>,
-    input: &mut ParseBuffer<'_>,
-    page: &mut Page,
-) -> Result<(), Unanswered> {
-    match found {
-        Ok(value) => {
-            put_print::<T, P>(&value, page)?;
-            put_left(input, page)
-        }
-        Err(ParseFault::Syntax(_)) => {
-            page.put("refused");
-            Ok(())
-        }
-        Err(ParseFault::Memory) => Err(Unanswered::Cut),
     }
 }
 
@@ -66,34 +44,32 @@ pub(crate) fn lexed(alloc: Global, text: &str) -> Option<TokenStream> {
     }
 }
 
-/// Puts the print of the value of a type with which a text begins, and what is left behind it.
-pub(crate) fn put_value<T: Drop, R: Reads<T>, P: Prints<T>>(
-    text: &str,
+// Puts what is left, if anything is, behind the print of a value.
+fn put_whole<T: ToTokens + Drop>(
+    value: T,
+    input: &mut ParseBuffer<'_>,
     page: &mut Page,
 ) -> Result<(), Unanswered> {
-    let Some(stream) = lexed(page.alloc(), text) else {
-        page.put("refused");
-        return Ok(());
-    };
-    let buffer = TokenBuffer::new2(page.alloc(), &stream, 1)?;
-    let mut input = ParseBuffer::new(page.alloc(), buffer.begin());
-    let found = R::read(&mut input);
-    put_front::<T, P>(found, &mut input, page)
+    put_stream(&value.to_token_stream(page.alloc())?, page)?;
+    put_left(input, page)
 }
 
-/// The same, of a value that is made of its tree.
-pub(crate) fn put_made<T: Drop, M: Makes<T>, P: Prints<T>>(
-    text: &str,
-    page: &mut Page,
-) -> Result<(), Unanswered> {
+/// Puts the print of the value of a type with which a text begins, and what is left behind it.
+pub(crate) fn put_parsed<T: Parse + ToTokens>(text: &str, page: &mut Page) -> Result<(), Unanswered> {
     let Some(stream) = lexed(page.alloc(), text) else {
         page.put("refused");
         return Ok(());
     };
     let buffer = TokenBuffer::new2(page.alloc(), &stream, 1)?;
     let mut input = ParseBuffer::new(page.alloc(), buffer.begin());
-    let found = read::<T, M>(&mut input);
-    put_front::<T, P>(found, &mut input, page)
+    match input.parse::<T>() {
+        Ok(value) => put_whole(value, &mut input, page),
+        Err(ParseFault::Syntax(_)) => {
+            page.put("refused");
+            Ok(())
+        }
+        Err(ParseFault::Memory) => Err(Unanswered::Cut),
+    }
 }
 
 /// Puts what is said by a function of the value with which a text begins.

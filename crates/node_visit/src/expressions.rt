@@ -1,19 +1,9 @@
 //! The nodes that stand in types of `node_expressions`.
 
+use crate::paths::{in_angle_bracketed_generic_arguments, in_attribute, in_bound_lifetimes, in_macro, in_path, in_q_self, in_return_type};
 use crate::Visit;
-use crate::paths::{
-    in_angle_bracketed_generic_arguments, in_attribute, in_bound_lifetimes, in_macro, in_path,
-    in_q_self, in_return_type,
-};
-use node_expressions::{
-    Arm, Block, Expr, ExprArray, ExprAssign, ExprAsync, ExprAwait, ExprBinary, ExprBlock,
-    ExprBreak, ExprCall, ExprCast, ExprClosure, ExprConst, ExprContinue, ExprField, ExprForLoop,
-    ExprGroup, ExprIf, ExprIndex, ExprInfer, ExprLet, ExprLit, ExprLoop, ExprMacro, ExprMatch,
-    ExprMethodCall, ExprParen, ExprPath, ExprRange, ExprRawAddr, ExprReference, ExprRepeat,
-    ExprReturn, ExprStruct, ExprTry, ExprTryBlock, ExprTuple, ExprUnary, ExprUnsafe, ExprWhile,
-    ExprYield, FieldValue, Local, LocalInit, Stmt, StmtMacro,
-};
 use std::alloc::AllocError;
+use node_expressions::{Arm, Block, Expr, ExprArray, ExprAssign, ExprAsync, ExprAwait, ExprBinary, ExprBlock, ExprBreak, ExprCall, ExprCast, ExprClosure, ExprConst, ExprContinue, ExprField, ExprForLoop, ExprGroup, ExprIf, ExprIndex, ExprInfer, ExprLet, ExprLit, ExprLoop, ExprMacro, ExprMatch, ExprMethodCall, ExprParen, ExprPath, ExprRange, ExprRawAddr, ExprReference, ExprRepeat, ExprReturn, ExprStruct, ExprTry, ExprTryBlock, ExprTuple, ExprUnary, ExprUnsafe, ExprWhile, ExprYield, FieldValue, Local, LocalInit, Stmt, StmtMacro};
 
 /// Visits each node that stands in it, outside the nodes in those.
 ///
@@ -110,10 +100,7 @@ pub fn in_expr_path<E, V: Visit<E>>(node: &mut ExprPath<E>, v: &mut V) -> Result
 /// # Errors
 ///
 /// That of a visit.
-pub fn in_expr_repeat<E, V: Visit<E>>(
-    node: &mut ExprRepeat<E>,
-    v: &mut V,
-) -> Result<(), AllocError> {
+pub fn in_expr_repeat<E, V: Visit<E>>(node: &mut ExprRepeat<E>, v: &mut V) -> Result<(), AllocError> {
     for each in node.attrs.iter_mut() {
         in_attribute(each, v)?;
     }
@@ -126,10 +113,7 @@ pub fn in_expr_repeat<E, V: Visit<E>>(
 /// # Errors
 ///
 /// That of a visit.
-pub fn in_expr_struct<E, V: Visit<E>>(
-    node: &mut ExprStruct<E>,
-    v: &mut V,
-) -> Result<(), AllocError> {
+pub fn in_expr_struct<E, V: Visit<E>>(node: &mut ExprStruct<E>, v: &mut V) -> Result<(), AllocError> {
     for each in node.attrs.iter_mut() {
         in_attribute(each, v)?;
     }
@@ -151,10 +135,7 @@ pub fn in_expr_struct<E, V: Visit<E>>(
 /// # Errors
 ///
 /// That of a visit.
-pub fn in_field_value<E, V: Visit<E>>(
-    node: &mut FieldValue<E>,
-    v: &mut V,
-) -> Result<(), AllocError> {
+pub fn in_field_value<E, V: Visit<E>>(node: &mut FieldValue<E>, v: &mut V) -> Result<(), AllocError> {
     for each in node.attrs.iter_mut() {
         in_attribute(each, v)?;
     }
@@ -229,10 +210,7 @@ pub fn in_expr_const<E, V: Visit<E>>(node: &mut ExprConst<E>, v: &mut V) -> Resu
 /// # Errors
 ///
 /// That of a visit.
-pub fn in_expr_for_loop<E, V: Visit<E>>(
-    node: &mut ExprForLoop<E>,
-    v: &mut V,
-) -> Result<(), AllocError> {
+pub fn in_expr_for_loop<E, V: Visit<E>>(node: &mut ExprForLoop<E>, v: &mut V) -> Result<(), AllocError> {
     for each in node.attrs.iter_mut() {
         in_attribute(each, v)?;
     }
@@ -258,10 +236,7 @@ pub fn in_expr_loop<E, V: Visit<E>>(node: &mut ExprLoop<E>, v: &mut V) -> Result
 /// # Errors
 ///
 /// That of a visit.
-pub fn in_expr_try_block<E, V: Visit<E>>(
-    node: &mut ExprTryBlock<E>,
-    v: &mut V,
-) -> Result<(), AllocError> {
+pub fn in_expr_try_block<E, V: Visit<E>>(node: &mut ExprTryBlock<E>, v: &mut V) -> Result<(), AllocError> {
     for each in node.attrs.iter_mut() {
         in_attribute(each, v)?;
     }
@@ -273,10 +248,7 @@ pub fn in_expr_try_block<E, V: Visit<E>>(
 /// # Errors
 ///
 /// That of a visit.
-pub fn in_expr_unsafe<E, V: Visit<E>>(
-    node: &mut ExprUnsafe<E>,
-    v: &mut V,
-) -> Result<(), AllocError> {
+pub fn in_expr_unsafe<E, V: Visit<E>>(node: &mut ExprUnsafe<E>, v: &mut V) -> Result<(), AllocError> {
     for each in node.attrs.iter_mut() {
         in_attribute(each, v)?;
     }
@@ -416,10 +388,7 @@ pub fn in_expr_index<E, V: Visit<E>>(node: &mut ExprIndex<E>, v: &mut V) -> Resu
 /// # Errors
 ///
 /// That of a visit.
-pub fn in_expr_method_call<E, V: Visit<E>>(
-    node: &mut ExprMethodCall<E>,
-    v: &mut V,
-) -> Result<(), AllocError> {
+pub fn in_expr_method_call<E, V: Visit<E>>(node: &mut ExprMethodCall<E>, v: &mut V) -> Result<(), AllocError> {
     for each in node.attrs.iter_mut() {
         in_attribute(each, v)?;
     }
@@ -450,10 +419,7 @@ pub fn in_expr_try<E, V: Visit<E>>(node: &mut ExprTry<E>, v: &mut V) -> Result<(
 /// # Errors
 ///
 /// That of a visit.
-pub fn in_expr_closure<E, V: Visit<E>>(
-    node: &mut ExprClosure<E>,
-    v: &mut V,
-) -> Result<(), AllocError> {
+pub fn in_expr_closure<E, V: Visit<E>>(node: &mut ExprClosure<E>, v: &mut V) -> Result<(), AllocError> {
     for each in node.attrs.iter_mut() {
         in_attribute(each, v)?;
     }
@@ -537,10 +503,7 @@ pub fn in_expr_break<E, V: Visit<E>>(node: &mut ExprBreak<E>, v: &mut V) -> Resu
 /// # Errors
 ///
 /// That of a visit.
-pub fn in_expr_continue<E, V: Visit<E>>(
-    node: &mut ExprContinue<E>,
-    v: &mut V,
-) -> Result<(), AllocError> {
+pub fn in_expr_continue<E, V: Visit<E>>(node: &mut ExprContinue<E>, v: &mut V) -> Result<(), AllocError> {
     for each in node.attrs.iter_mut() {
         in_attribute(each, v)?;
     }
@@ -552,10 +515,7 @@ pub fn in_expr_continue<E, V: Visit<E>>(
 /// # Errors
 ///
 /// That of a visit.
-pub fn in_expr_return<E, V: Visit<E>>(
-    node: &mut ExprReturn<E>,
-    v: &mut V,
-) -> Result<(), AllocError> {
+pub fn in_expr_return<E, V: Visit<E>>(node: &mut ExprReturn<E>, v: &mut V) -> Result<(), AllocError> {
     for each in node.attrs.iter_mut() {
         in_attribute(each, v)?;
     }
@@ -585,10 +545,7 @@ pub fn in_expr_yield<E, V: Visit<E>>(node: &mut ExprYield<E>, v: &mut V) -> Resu
 /// # Errors
 ///
 /// That of a visit.
-pub fn in_expr_assign<E, V: Visit<E>>(
-    node: &mut ExprAssign<E>,
-    v: &mut V,
-) -> Result<(), AllocError> {
+pub fn in_expr_assign<E, V: Visit<E>>(node: &mut ExprAssign<E>, v: &mut V) -> Result<(), AllocError> {
     for each in node.attrs.iter_mut() {
         in_attribute(each, v)?;
     }
@@ -601,10 +558,7 @@ pub fn in_expr_assign<E, V: Visit<E>>(
 /// # Errors
 ///
 /// That of a visit.
-pub fn in_expr_binary<E, V: Visit<E>>(
-    node: &mut ExprBinary<E>,
-    v: &mut V,
-) -> Result<(), AllocError> {
+pub fn in_expr_binary<E, V: Visit<E>>(node: &mut ExprBinary<E>, v: &mut V) -> Result<(), AllocError> {
     for each in node.attrs.iter_mut() {
         in_attribute(each, v)?;
     }
@@ -648,10 +602,7 @@ pub fn in_expr_range<E, V: Visit<E>>(node: &mut ExprRange<E>, v: &mut V) -> Resu
 /// # Errors
 ///
 /// That of a visit.
-pub fn in_expr_raw_addr<E, V: Visit<E>>(
-    node: &mut ExprRawAddr<E>,
-    v: &mut V,
-) -> Result<(), AllocError> {
+pub fn in_expr_raw_addr<E, V: Visit<E>>(node: &mut ExprRawAddr<E>, v: &mut V) -> Result<(), AllocError> {
     for each in node.attrs.iter_mut() {
         in_attribute(each, v)?;
     }
@@ -663,10 +614,7 @@ pub fn in_expr_raw_addr<E, V: Visit<E>>(
 /// # Errors
 ///
 /// That of a visit.
-pub fn in_expr_reference<E, V: Visit<E>>(
-    node: &mut ExprReference<E>,
-    v: &mut V,
-) -> Result<(), AllocError> {
+pub fn in_expr_reference<E, V: Visit<E>>(node: &mut ExprReference<E>, v: &mut V) -> Result<(), AllocError> {
     for each in node.attrs.iter_mut() {
         in_attribute(each, v)?;
     }

@@ -1,20 +1,13 @@
 //! The nodes that stand in types of `node_items`.
 
-use crate::Visit;
-use crate::expressions::in_block;
+use crate::expressions::{in_block};
 use crate::generics::{in_generics, in_visibility};
 use crate::paths::{in_attribute, in_macro, in_path, in_return_type, in_type_param_bound};
-use crate::patterns::in_pat_type;
-use crate::types::in_type;
-use node_items::{
-    Data, DataEnum, DataStruct, DataUnion, DeriveInput, Field, Fields, FieldsNamed, FieldsUnnamed,
-    FnArg, ForeignItem, ForeignItemFn, ForeignItemMacro, ForeignItemStatic, ForeignItemType,
-    ImplItem, ImplItemConst, ImplItemFn, ImplItemMacro, ImplItemType, ItemConst, ItemEnum,
-    ItemExternCrate, ItemFn, ItemForeignMod, ItemImpl, ItemMacro, ItemMod, ItemStatic, ItemStruct,
-    ItemTrait, ItemTraitAlias, ItemType, ItemUnion, ItemUse, Receiver, ReceiverKind, Signature,
-    TraitItem, TraitItemConst, TraitItemFn, TraitItemMacro, TraitItemType, Variadic, Variant,
-};
+use crate::patterns::{in_pat_type};
+use crate::types::{in_type};
+use crate::Visit;
 use std::alloc::AllocError;
+use node_items::{Data, DataEnum, DataStruct, DataUnion, DeriveInput, Field, Fields, FieldsNamed, FieldsUnnamed, FnArg, ForeignItem, ForeignItemFn, ForeignItemMacro, ForeignItemStatic, ForeignItemType, ImplItem, ImplItemConst, ImplItemFn, ImplItemMacro, ImplItemType, ItemConst, ItemEnum, ItemExternCrate, ItemFn, ItemForeignMod, ItemImpl, ItemMacro, ItemMod, ItemStatic, ItemStruct, ItemTrait, ItemTraitAlias, ItemType, ItemUnion, ItemUse, Receiver, ReceiverKind, Signature, TraitItem, TraitItemConst, TraitItemFn, TraitItemMacro, TraitItemType, Variadic, Variant};
 
 /// Visits each node that stands in it, outside the nodes in those.
 ///
@@ -48,10 +41,7 @@ pub fn in_fields<E, V: Visit<E>>(node: &mut Fields<E>, v: &mut V) -> Result<(), 
 /// # Errors
 ///
 /// That of a visit.
-pub fn in_fields_named<E, V: Visit<E>>(
-    node: &mut FieldsNamed<E>,
-    v: &mut V,
-) -> Result<(), AllocError> {
+pub fn in_fields_named<E, V: Visit<E>>(node: &mut FieldsNamed<E>, v: &mut V) -> Result<(), AllocError> {
     for each in node.named.iter_mut() {
         in_field(each, v)?;
     }
@@ -63,10 +53,7 @@ pub fn in_fields_named<E, V: Visit<E>>(
 /// # Errors
 ///
 /// That of a visit.
-pub fn in_fields_unnamed<E, V: Visit<E>>(
-    node: &mut FieldsUnnamed<E>,
-    v: &mut V,
-) -> Result<(), AllocError> {
+pub fn in_fields_unnamed<E, V: Visit<E>>(node: &mut FieldsUnnamed<E>, v: &mut V) -> Result<(), AllocError> {
     for each in node.unnamed.iter_mut() {
         in_field(each, v)?;
     }
@@ -111,10 +98,7 @@ pub fn in_variant<E, V: Visit<E>>(node: &mut Variant<E>, v: &mut V) -> Result<()
 /// # Errors
 ///
 /// That of a visit.
-pub fn in_item_struct<E, V: Visit<E>>(
-    node: &mut ItemStruct<E>,
-    v: &mut V,
-) -> Result<(), AllocError> {
+pub fn in_item_struct<E, V: Visit<E>>(node: &mut ItemStruct<E>, v: &mut V) -> Result<(), AllocError> {
     for each in node.attrs.iter_mut() {
         in_attribute(each, v)?;
     }
@@ -159,10 +143,7 @@ pub fn in_item_union<E, V: Visit<E>>(node: &mut ItemUnion<E>, v: &mut V) -> Resu
 /// # Errors
 ///
 /// That of a visit.
-pub fn in_derive_input<E, V: Visit<E>>(
-    node: &mut DeriveInput<E>,
-    v: &mut V,
-) -> Result<(), AllocError> {
+pub fn in_derive_input<E, V: Visit<E>>(node: &mut DeriveInput<E>, v: &mut V) -> Result<(), AllocError> {
     for each in node.attrs.iter_mut() {
         in_attribute(each, v)?;
     }
@@ -189,10 +170,7 @@ pub fn in_data<E, V: Visit<E>>(node: &mut Data<E>, v: &mut V) -> Result<(), Allo
 /// # Errors
 ///
 /// That of a visit.
-pub fn in_data_struct<E, V: Visit<E>>(
-    node: &mut DataStruct<E>,
-    v: &mut V,
-) -> Result<(), AllocError> {
+pub fn in_data_struct<E, V: Visit<E>>(node: &mut DataStruct<E>, v: &mut V) -> Result<(), AllocError> {
     in_fields(&mut node.fields, v)
 }
 
@@ -276,10 +254,7 @@ pub fn in_receiver<E, V: Visit<E>>(node: &mut Receiver<E>, v: &mut V) -> Result<
 /// # Errors
 ///
 /// That of a visit.
-pub fn in_receiver_kind<E, V: Visit<E>>(
-    node: &mut ReceiverKind<E>,
-    v: &mut V,
-) -> Result<(), AllocError> {
+pub fn in_receiver_kind<E, V: Visit<E>>(node: &mut ReceiverKind<E>, v: &mut V) -> Result<(), AllocError> {
     match node {
         ReceiverKind::Typed(_, b) => v.visit(b),
         _ => Ok(()),
@@ -341,10 +316,7 @@ pub fn in_impl_item<E, V: Visit<E>>(node: &mut ImplItem<E>, v: &mut V) -> Result
 /// # Errors
 ///
 /// That of a visit.
-pub fn in_impl_item_const<E, V: Visit<E>>(
-    node: &mut ImplItemConst<E>,
-    v: &mut V,
-) -> Result<(), AllocError> {
+pub fn in_impl_item_const<E, V: Visit<E>>(node: &mut ImplItemConst<E>, v: &mut V) -> Result<(), AllocError> {
     for each in node.attrs.iter_mut() {
         in_attribute(each, v)?;
     }
@@ -359,10 +331,7 @@ pub fn in_impl_item_const<E, V: Visit<E>>(
 /// # Errors
 ///
 /// That of a visit.
-pub fn in_impl_item_fn<E, V: Visit<E>>(
-    node: &mut ImplItemFn<E>,
-    v: &mut V,
-) -> Result<(), AllocError> {
+pub fn in_impl_item_fn<E, V: Visit<E>>(node: &mut ImplItemFn<E>, v: &mut V) -> Result<(), AllocError> {
     for each in node.attrs.iter_mut() {
         in_attribute(each, v)?;
     }
@@ -376,10 +345,7 @@ pub fn in_impl_item_fn<E, V: Visit<E>>(
 /// # Errors
 ///
 /// That of a visit.
-pub fn in_impl_item_type<E, V: Visit<E>>(
-    node: &mut ImplItemType<E>,
-    v: &mut V,
-) -> Result<(), AllocError> {
+pub fn in_impl_item_type<E, V: Visit<E>>(node: &mut ImplItemType<E>, v: &mut V) -> Result<(), AllocError> {
     for each in node.attrs.iter_mut() {
         in_attribute(each, v)?;
     }
@@ -393,10 +359,7 @@ pub fn in_impl_item_type<E, V: Visit<E>>(
 /// # Errors
 ///
 /// That of a visit.
-pub fn in_impl_item_macro<E, V: Visit<E>>(
-    node: &mut ImplItemMacro<E>,
-    v: &mut V,
-) -> Result<(), AllocError> {
+pub fn in_impl_item_macro<E, V: Visit<E>>(node: &mut ImplItemMacro<E>, v: &mut V) -> Result<(), AllocError> {
     for each in node.attrs.iter_mut() {
         in_attribute(each, v)?;
     }
@@ -450,10 +413,7 @@ pub fn in_item_mod<E, V: Visit<E>>(node: &mut ItemMod<E>, v: &mut V) -> Result<(
 /// # Errors
 ///
 /// That of a visit.
-pub fn in_item_extern_crate<E, V: Visit<E>>(
-    node: &mut ItemExternCrate<E>,
-    v: &mut V,
-) -> Result<(), AllocError> {
+pub fn in_item_extern_crate<E, V: Visit<E>>(node: &mut ItemExternCrate<E>, v: &mut V) -> Result<(), AllocError> {
     for each in node.attrs.iter_mut() {
         in_attribute(each, v)?;
     }
@@ -465,10 +425,7 @@ pub fn in_item_extern_crate<E, V: Visit<E>>(
 /// # Errors
 ///
 /// That of a visit.
-pub fn in_item_foreign_mod<E, V: Visit<E>>(
-    node: &mut ItemForeignMod<E>,
-    v: &mut V,
-) -> Result<(), AllocError> {
+pub fn in_item_foreign_mod<E, V: Visit<E>>(node: &mut ItemForeignMod<E>, v: &mut V) -> Result<(), AllocError> {
     for each in node.attrs.iter_mut() {
         in_attribute(each, v)?;
     }
@@ -483,10 +440,7 @@ pub fn in_item_foreign_mod<E, V: Visit<E>>(
 /// # Errors
 ///
 /// That of a visit.
-pub fn in_foreign_item<E, V: Visit<E>>(
-    node: &mut ForeignItem<E>,
-    v: &mut V,
-) -> Result<(), AllocError> {
+pub fn in_foreign_item<E, V: Visit<E>>(node: &mut ForeignItem<E>, v: &mut V) -> Result<(), AllocError> {
     match node {
         ForeignItem::Fn(a) => in_foreign_item_fn(a, v),
         ForeignItem::Static(a) => in_foreign_item_static(a, v),
@@ -501,10 +455,7 @@ pub fn in_foreign_item<E, V: Visit<E>>(
 /// # Errors
 ///
 /// That of a visit.
-pub fn in_foreign_item_fn<E, V: Visit<E>>(
-    node: &mut ForeignItemFn<E>,
-    v: &mut V,
-) -> Result<(), AllocError> {
+pub fn in_foreign_item_fn<E, V: Visit<E>>(node: &mut ForeignItemFn<E>, v: &mut V) -> Result<(), AllocError> {
     for each in node.attrs.iter_mut() {
         in_attribute(each, v)?;
     }
@@ -517,10 +468,7 @@ pub fn in_foreign_item_fn<E, V: Visit<E>>(
 /// # Errors
 ///
 /// That of a visit.
-pub fn in_foreign_item_static<E, V: Visit<E>>(
-    node: &mut ForeignItemStatic<E>,
-    v: &mut V,
-) -> Result<(), AllocError> {
+pub fn in_foreign_item_static<E, V: Visit<E>>(node: &mut ForeignItemStatic<E>, v: &mut V) -> Result<(), AllocError> {
     for each in node.attrs.iter_mut() {
         in_attribute(each, v)?;
     }
@@ -533,10 +481,7 @@ pub fn in_foreign_item_static<E, V: Visit<E>>(
 /// # Errors
 ///
 /// That of a visit.
-pub fn in_foreign_item_type<E, V: Visit<E>>(
-    node: &mut ForeignItemType<E>,
-    v: &mut V,
-) -> Result<(), AllocError> {
+pub fn in_foreign_item_type<E, V: Visit<E>>(node: &mut ForeignItemType<E>, v: &mut V) -> Result<(), AllocError> {
     for each in node.attrs.iter_mut() {
         in_attribute(each, v)?;
     }
@@ -549,10 +494,7 @@ pub fn in_foreign_item_type<E, V: Visit<E>>(
 /// # Errors
 ///
 /// That of a visit.
-pub fn in_foreign_item_macro<E, V: Visit<E>>(
-    node: &mut ForeignItemMacro<E>,
-    v: &mut V,
-) -> Result<(), AllocError> {
+pub fn in_foreign_item_macro<E, V: Visit<E>>(node: &mut ForeignItemMacro<E>, v: &mut V) -> Result<(), AllocError> {
     for each in node.attrs.iter_mut() {
         in_attribute(each, v)?;
     }
@@ -584,10 +526,7 @@ pub fn in_item_trait<E, V: Visit<E>>(node: &mut ItemTrait<E>, v: &mut V) -> Resu
 /// # Errors
 ///
 /// That of a visit.
-pub fn in_item_trait_alias<E, V: Visit<E>>(
-    node: &mut ItemTraitAlias<E>,
-    v: &mut V,
-) -> Result<(), AllocError> {
+pub fn in_item_trait_alias<E, V: Visit<E>>(node: &mut ItemTraitAlias<E>, v: &mut V) -> Result<(), AllocError> {
     for each in node.attrs.iter_mut() {
         in_attribute(each, v)?;
     }
@@ -619,10 +558,7 @@ pub fn in_trait_item<E, V: Visit<E>>(node: &mut TraitItem<E>, v: &mut V) -> Resu
 /// # Errors
 ///
 /// That of a visit.
-pub fn in_trait_item_const<E, V: Visit<E>>(
-    node: &mut TraitItemConst<E>,
-    v: &mut V,
-) -> Result<(), AllocError> {
+pub fn in_trait_item_const<E, V: Visit<E>>(node: &mut TraitItemConst<E>, v: &mut V) -> Result<(), AllocError> {
     for each in node.attrs.iter_mut() {
         in_attribute(each, v)?;
     }
@@ -639,10 +575,7 @@ pub fn in_trait_item_const<E, V: Visit<E>>(
 /// # Errors
 ///
 /// That of a visit.
-pub fn in_trait_item_fn<E, V: Visit<E>>(
-    node: &mut TraitItemFn<E>,
-    v: &mut V,
-) -> Result<(), AllocError> {
+pub fn in_trait_item_fn<E, V: Visit<E>>(node: &mut TraitItemFn<E>, v: &mut V) -> Result<(), AllocError> {
     for each in node.attrs.iter_mut() {
         in_attribute(each, v)?;
     }
@@ -658,10 +591,7 @@ pub fn in_trait_item_fn<E, V: Visit<E>>(
 /// # Errors
 ///
 /// That of a visit.
-pub fn in_trait_item_type<E, V: Visit<E>>(
-    node: &mut TraitItemType<E>,
-    v: &mut V,
-) -> Result<(), AllocError> {
+pub fn in_trait_item_type<E, V: Visit<E>>(node: &mut TraitItemType<E>, v: &mut V) -> Result<(), AllocError> {
     for each in node.attrs.iter_mut() {
         in_attribute(each, v)?;
     }
@@ -680,10 +610,7 @@ pub fn in_trait_item_type<E, V: Visit<E>>(
 /// # Errors
 ///
 /// That of a visit.
-pub fn in_trait_item_macro<E, V: Visit<E>>(
-    node: &mut TraitItemMacro<E>,
-    v: &mut V,
-) -> Result<(), AllocError> {
+pub fn in_trait_item_macro<E, V: Visit<E>>(node: &mut TraitItemMacro<E>, v: &mut V) -> Result<(), AllocError> {
     for each in node.attrs.iter_mut() {
         in_attribute(each, v)?;
     }
@@ -710,10 +637,7 @@ pub fn in_item_const<E, V: Visit<E>>(node: &mut ItemConst<E>, v: &mut V) -> Resu
 /// # Errors
 ///
 /// That of a visit.
-pub fn in_item_static<E, V: Visit<E>>(
-    node: &mut ItemStatic<E>,
-    v: &mut V,
-) -> Result<(), AllocError> {
+pub fn in_item_static<E, V: Visit<E>>(node: &mut ItemStatic<E>, v: &mut V) -> Result<(), AllocError> {
     for each in node.attrs.iter_mut() {
         in_attribute(each, v)?;
     }

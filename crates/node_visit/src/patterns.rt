@@ -1,12 +1,9 @@
 //! The nodes that stand in types of `node_patterns`.
 
-use crate::Visit;
 use crate::paths::{in_attribute, in_path, in_q_self};
-use node_patterns::{
-    FieldPat, Pat, PatIdent, PatLit, PatOr, PatParen, PatPath, PatRange, PatReference, PatRest,
-    PatSlice, PatStruct, PatTuple, PatTupleStruct, PatType, PatWild,
-};
+use crate::Visit;
 use std::alloc::AllocError;
+use node_patterns::{FieldPat, Pat, PatIdent, PatLit, PatOr, PatParen, PatPath, PatRange, PatReference, PatRest, PatSlice, PatStruct, PatTuple, PatTupleStruct, PatType, PatWild};
 
 /// Visits each node that stands in it, outside the nodes in those.
 ///
@@ -47,10 +44,7 @@ pub fn in_field_pat<E, V: Visit<E>>(node: &mut FieldPat<E>, v: &mut V) -> Result
 /// # Errors
 ///
 /// That of a visit.
-pub fn in_pat_tuple_struct<E, V: Visit<E>>(
-    node: &mut PatTupleStruct<E>,
-    v: &mut V,
-) -> Result<(), AllocError> {
+pub fn in_pat_tuple_struct<E, V: Visit<E>>(node: &mut PatTupleStruct<E>, v: &mut V) -> Result<(), AllocError> {
     for each in node.attrs.iter_mut() {
         in_attribute(each, v)?;
     }
@@ -156,10 +150,7 @@ pub fn in_pat_range<E, V: Visit<E>>(node: &mut PatRange<E>, v: &mut V) -> Result
 /// # Errors
 ///
 /// That of a visit.
-pub fn in_pat_reference<E, V: Visit<E>>(
-    node: &mut PatReference<E>,
-    v: &mut V,
-) -> Result<(), AllocError> {
+pub fn in_pat_reference<E, V: Visit<E>>(node: &mut PatReference<E>, v: &mut V) -> Result<(), AllocError> {
     for each in node.attrs.iter_mut() {
         in_attribute(each, v)?;
     }

@@ -1,24 +1,16 @@
 //! The nodes that stand in types of `node_types`.
 
+use crate::paths::{in_attribute, in_bound_lifetimes, in_path, in_q_self, in_return_type, in_type_param_bound};
 use crate::Visit;
-use crate::paths::{
-    in_attribute, in_bound_lifetimes, in_path, in_q_self, in_return_type, in_type_param_bound,
-};
-use node_types::{
-    FnPtrArg, Type, TypeArray, TypeFnPtr, TypeImplTrait, TypeParen, TypePath, TypePtr,
-    TypeReference, TypeSlice, TypeTraitObject, TypeTuple,
-};
 use std::alloc::AllocError;
+use node_types::{FnPtrArg, Type, TypeArray, TypeFnPtr, TypeImplTrait, TypeParen, TypePath, TypePtr, TypeReference, TypeSlice, TypeTraitObject, TypeTuple};
 
 /// Visits each node that stands in it, outside the nodes in those.
 ///
 /// # Errors
 ///
 /// That of a visit.
-pub fn in_type_fn_ptr<E, V: Visit<E>>(
-    node: &mut TypeFnPtr<E>,
-    v: &mut V,
-) -> Result<(), AllocError> {
+pub fn in_type_fn_ptr<E, V: Visit<E>>(node: &mut TypeFnPtr<E>, v: &mut V) -> Result<(), AllocError> {
     if let Some(each) = &mut node.lifetimes {
         in_bound_lifetimes(each, v)?;
     }
@@ -55,10 +47,7 @@ pub fn in_type_array<E, V: Visit<E>>(node: &mut TypeArray<E>, v: &mut V) -> Resu
 /// # Errors
 ///
 /// That of a visit.
-pub fn in_type_impl_trait<E, V: Visit<E>>(
-    node: &mut TypeImplTrait<E>,
-    v: &mut V,
-) -> Result<(), AllocError> {
+pub fn in_type_impl_trait<E, V: Visit<E>>(node: &mut TypeImplTrait<E>, v: &mut V) -> Result<(), AllocError> {
     for each in node.bounds.iter_mut() {
         in_type_param_bound(each, v)?;
     }
@@ -100,10 +89,7 @@ pub fn in_type_ptr<E, V: Visit<E>>(node: &mut TypePtr<E>, v: &mut V) -> Result<(
 /// # Errors
 ///
 /// That of a visit.
-pub fn in_type_reference<E, V: Visit<E>>(
-    node: &mut TypeReference<E>,
-    v: &mut V,
-) -> Result<(), AllocError> {
+pub fn in_type_reference<E, V: Visit<E>>(node: &mut TypeReference<E>, v: &mut V) -> Result<(), AllocError> {
     v.visit(&mut node.elem)
 }
 
@@ -121,10 +107,7 @@ pub fn in_type_slice<E, V: Visit<E>>(node: &mut TypeSlice<E>, v: &mut V) -> Resu
 /// # Errors
 ///
 /// That of a visit.
-pub fn in_type_trait_object<E, V: Visit<E>>(
-    node: &mut TypeTraitObject<E>,
-    v: &mut V,
-) -> Result<(), AllocError> {
+pub fn in_type_trait_object<E, V: Visit<E>>(node: &mut TypeTraitObject<E>, v: &mut V) -> Result<(), AllocError> {
     for each in node.bounds.iter_mut() {
         in_type_param_bound(each, v)?;
     }

@@ -20,10 +20,7 @@ impl<F: FnMut(&mut Node) -> Result<(), AllocError>> Visit<Node> for Inner<'_, F>
 
 // Visits the nodes in a node.
 #[cycle(visit)]
-fn in_node<F: FnMut(&mut Node) -> Result<(), AllocError>>(
-    node: &mut Node,
-    v: &mut Inner<'_, F>,
-) -> Result<(), AllocError> {
+fn in_node<F: FnMut(&mut Node) -> Result<(), AllocError>>(node: &mut Node, v: &mut Inner<'_, F>) -> Result<(), AllocError> {
     match node {
         Node::Expr(form) => expressions::in_expr(&mut **form, v),
         Node::Item(item) => in_item(&mut **item, v),
@@ -35,10 +32,7 @@ fn in_node<F: FnMut(&mut Node) -> Result<(), AllocError>>(
 
 // Visits the nodes in an item.
 #[cycle(visit)]
-fn in_item<F: FnMut(&mut Node) -> Result<(), AllocError>>(
-    item: &mut Item,
-    v: &mut Inner<'_, F>,
-) -> Result<(), AllocError> {
+fn in_item<F: FnMut(&mut Node) -> Result<(), AllocError>>(item: &mut Item, v: &mut Inner<'_, F>) -> Result<(), AllocError> {
     match item {
         Item::Const(item) => items::in_item_const(item, v),
         Item::Enum(item) => items::in_item_enum(item, v),
@@ -64,10 +58,7 @@ fn in_item<F: FnMut(&mut Node) -> Result<(), AllocError>>(
 /// # Errors
 ///
 /// That of the first call with one.
-pub fn in_block<F: FnMut(&mut Node) -> Result<(), AllocError> + Drop>(
-    block: &mut Block,
-    mut call: F,
-) -> Result<(), AllocError> {
+pub fn in_block<F: FnMut(&mut Node) -> Result<(), AllocError> + Drop>(block: &mut Block, mut call: F) -> Result<(), AllocError> {
     expressions::in_block(block, &mut Inner { call: &mut call })
 }
 
@@ -76,10 +67,7 @@ pub fn in_block<F: FnMut(&mut Node) -> Result<(), AllocError> + Drop>(
 /// # Errors
 ///
 /// That of the first call with one.
-pub fn below_item<F: FnMut(&mut Node) -> Result<(), AllocError> + Drop>(
-    item: &mut Item,
-    mut call: F,
-) -> Result<(), AllocError> {
+pub fn below_item<F: FnMut(&mut Node) -> Result<(), AllocError> + Drop>(item: &mut Item, mut call: F) -> Result<(), AllocError> {
     in_item(item, &mut Inner { call: &mut call })
 }
 
@@ -88,10 +76,7 @@ pub fn below_item<F: FnMut(&mut Node) -> Result<(), AllocError> + Drop>(
 /// # Errors
 ///
 /// That of the first call with one.
-pub fn in_file<F: FnMut(&mut Node) -> Result<(), AllocError> + Drop>(
-    file: &mut File,
-    mut call: F,
-) -> Result<(), AllocError> {
+pub fn in_file<F: FnMut(&mut Node) -> Result<(), AllocError> + Drop>(file: &mut File, mut call: F) -> Result<(), AllocError> {
     let mut v = Inner { call: &mut call };
     for attribute in file.attrs.iter_mut() {
         paths::in_attribute(attribute, &mut v)?;

@@ -12,27 +12,18 @@ pub mod each;
 mod file;
 
 pub use file::{normal, parse_file, same_program};
-pub use node_expressions::{BlockModifiers, ClosureModifiers, Label, LocalModifiers};
-pub use node_generics::PredicateLifetime;
-pub use node_items::{
-    ConstModifiers, FieldModifiers, FnModifiers, Frontmatter, ImplModifiers, Safety,
-    StaticMutability, TraitModifiers, TypeModifiers, UseGlob, UseGroup, UseName, UsePath,
-    UseRename, UseTree, WhereClausePlacement,
-};
-pub use node_paths::{Abi, AttrStyle, MacroDelimiter, TraitBoundModifier};
 pub use node_tree::{File, Item, Node};
+pub use node_expressions::{BlockModifiers, ClosureModifiers, Label, LocalModifiers};
+pub use node_generics::{PredicateLifetime};
+pub use node_items::{ConstModifiers, FieldModifiers, FnModifiers, Frontmatter, ImplModifiers, Safety, StaticMutability, TraitModifiers, TypeModifiers, UseGlob, UseGroup, UseName, UsePath, UseRename, UseTree, WhereClausePlacement};
+pub use node_paths::{Abi, AttrStyle, MacroDelimiter, TraitBoundModifier};
 pub use node_types::{PointerMutability, TypeInfer, TypeNever};
-pub use proc_macro2::{
-    Delimiter, Group, Ident, LineColumn, Literal, Punct, SourceMap, Spacing, Span, TokenStream,
-    TokenTree, TryClone,
-};
+pub use proc_macro2::{Delimiter, Group, Ident, LineColumn, Literal, Punct, SourceMap, Spacing, Span, TokenStream, TokenTree, TryClone};
 pub use syn_error::{Error, ParseFault, Result, TextFault, ToTokens};
-pub use syn_input::{Parse, ParseBuffer, ParseStream, Parser, parse_str, parse2};
+pub use syn_input::{Parse, ParseBuffer, ParseStream, Parser, parse2, parse_str};
 pub use syn_kinds::{Lifetime, token};
 pub use syn_leaf::operators::{BinOp, RangeLimits, UnOp};
-pub use syn_leaf::{
-    Index, Lit, LitBool, LitByte, LitByteStr, LitCStr, LitChar, LitFloat, LitInt, LitStr, Member,
-};
+pub use syn_leaf::{Index, Lit, LitBool, LitByte, LitByteStr, LitCStr, LitChar, LitFloat, LitInt, LitStr, Member};
 pub use syn_lists as punctuated;
 pub use syn_lists::{Pair, Punctuated};
 
