@@ -38,9 +38,10 @@ pub fn derive_input<E: Drop, R: Reader<E>>(
     let attrs = outer_attributes(below, attrs)?;
     let vis = visibility(below, vis)?;
     let front = Front { attrs, vis };
-    match take::alternative(2, form) {
-        (0, own) => Ok(DeriveInput::from(item_struct(below, front, own)?)),
-        (1, own) => Ok(DeriveInput::from(item_enum(below, front, own)?)),
-        (_, own) => Ok(DeriveInput::from(item_union(below, front, own)?)),
+    let (which, own) = take::alternative(2, form);
+    match which {
+        0 => Ok(DeriveInput::from(item_struct(below, front, own)?)),
+        1 => Ok(DeriveInput::from(item_enum(below, front, own)?)),
+        _ => Ok(DeriveInput::from(item_union(below, front, own)?)),
     }
 }
