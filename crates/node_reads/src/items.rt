@@ -1,10 +1,12 @@
 //! Items, each by itself, as they are read.
 
+ghost use Rattle.node_views.specs.Data as structs;
 ghost use Rattle.node_views.specs.Singles as singles;
 ghost use Rattle.syn_grammar.specs.Kind as k;
 
 use crate::TreeReader;
 use crate::grown::{Grown, Inside};
+use node_from_singles::derive::derive_input;
 use node_from_singles::items::{
     one_const, one_enum, one_extern_crate, one_fn, one_foreign_mod, one_impl, one_mod, one_static,
     one_struct, one_type, one_union, one_use,
@@ -13,6 +15,7 @@ use node_from_singles::macros::one_macro;
 use node_from_singles::traits::{one_trait, one_trait_alias};
 use node_items::alias::ItemType;
 use node_items::data::{ItemEnum, ItemStruct, ItemUnion};
+use node_items::derive::DeriveInput;
 use node_items::function::ItemFn;
 use node_items::implement::ItemImpl;
 use node_items::import::ItemUse;
@@ -232,5 +235,19 @@ impl<E: Grown> Makes<ItemUse<E>> for TreeReader<E> {
 
     fn make(alloc: Global, tree: &Tree<'_>) -> Result<ItemUse<E>, AllocError> {
         one_use(&Inside::new(alloc, tree), tree)
+    }
+}
+
+impl<E: Grown> Makes<DeriveInput<E>> for TreeReader<E> {
+    ghost kind = { k.DeriveInput };
+
+    ghost view = { structs.derive_input E.view };
+
+    fn kind() -> Kind {
+        Kind::DeriveInput
+    }
+
+    fn make(alloc: Global, tree: &Tree<'_>) -> Result<DeriveInput<E>, AllocError> {
+        derive_input(&Inside::new(alloc, tree), tree)
     }
 }

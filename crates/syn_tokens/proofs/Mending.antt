@@ -8,11 +8,11 @@ use Rattle.rust_map.specs.declared.span.Span.{Span}
 use Rattle.rust_leaf.specs.Leaf.{literal_span, literal_text}
 use Rattle.rust_leaf.specs.Minus.{minus, starts_with_minus}
 use Rattle.proc_macro2.specs.Groups.{same_delimiter}
-use Rattle.proc_macro2.specs.Token.{Token, Opens, Closes, Ident, Literal, Punct, Alone, Spanned, plain}
+use Rattle.proc_macro2.specs.Token.{Token, Opens, Closes, Literal, Punct, Alone, Spanned, plain}
 use Rattle.proc_macro2.specs.Flat.{spanned}
 use Rattle.proc_macro2.specs.Entered.{literal_entered}
 use Rattle.proc_macro2.specs.declared.delimiter.Delimiter.{Delimiter}
-use Rattle.writer_print.specs.Pieces.{piece_token, piece_span}
+use Rattle.writer_print.specs.Pieces.{piece_token}
 use Rattle.writer_print.specs.declared.piece.Piece.{Piece}
 use Rattle.writer_print.specs.declared.piece.Piece.TheVariants as pieces
 use Rattle.syn_tokens.specs.Mended.{as_stream, in_stream, mended, piece_in_stream}

@@ -9,7 +9,7 @@ use Rattle.rust_leaf.specs.Identifier.{is_ident_text}
 use Rattle.writer_print.specs.Pieces.{piece_token}
 use Rattle.writer_print.specs.declared.piece.Piece.{Piece}
 use Rattle.writer_print.specs.declared.piece.Piece.TheVariants as pieces
-use Rattle.std.specs.Prelude.{Bool, true, false, ◌&&◌, ◌-◌, not, reverse, if◌then◌else◌, slice_get, Option, Some, None}
+use Rattle.std.specs.Prelude.{Bool, true, false, ◌&&◌, ◌-◌, not, reverse, if◌then◌else◌, slice_get, Some}
 use Rattle.rust_map.specs.declared.span.Span.{Span}
 use Rattle.std.proofs.lemmas.List.{append-nil, length-map, length-reverse, map-append, reverse-append, at_drop_more}
 use Rattle.rust_leaf.specs.Minus.{minus, starts_with_minus}
