@@ -34,7 +34,7 @@ use std::marker::PhantomData;
 
 /// What makes nodes of trees that are smaller than that one.
 #[derive(Drop)]
-pub struct Below<'t, 'a, E, I, N, P, S> {
+pub struct Below<'t, 'a, E, N, P, S> {
     /// That one.
     pub above: &'t Tree<'a>,
     /// Where memory is taken from.
@@ -45,19 +45,18 @@ pub struct Below<'t, 'a, E, I, N, P, S> {
     pub pattern: P,
     /// What makes the statement of a tree.
     pub statement: S,
-    /// Of nodes and items.
-    pub nodes: PhantomData<(E, I)>,
+    /// Of nodes.
+    pub nodes: PhantomData<E>,
 }
 
 impl<
     't,
     'a,
-    E: Closed<I>,
-    I: Drop,
+    E: Closed,
     N: Fn(Global, What, &Tree<'_>) -> Result<E, AllocError>,
     P: Fn(Global, Vec<Attribute<E>>, &Tree<'_>) -> Result<E, AllocError>,
     S: Fn(Global, &Tree<'_>) -> Result<Stmt<E>, AllocError>,
-> Reader<E> for Below<'t, 'a, E, I, N, P, S>
+> Reader<E> for Below<'t, 'a, E, N, P, S>
 {
     ghost ready = { λ b. MakesNodes E.view (node_count b.above.now) (N.pre b.node) (N.post b.node)
         × MakesPatterns E.view (node_count b.above.now) (P.pre b.pattern) (P.post b.pattern)
@@ -79,12 +78,11 @@ impl<
 impl<
     't,
     'a,
-    E: Closed<I>,
-    I: Drop,
+    E: Closed,
     N: Fn(Global, What, &Tree<'_>) -> Result<E, AllocError>,
     P: Fn(Global, Vec<Attribute<E>>, &Tree<'_>) -> Result<E, AllocError>,
     S: Fn(Global, &Tree<'_>) -> Result<Stmt<E>, AllocError>,
-> Maker<E> for Below<'t, 'a, E, I, N, P, S>
+> Maker<E> for Below<'t, 'a, E, N, P, S>
 {
     fn expression(&self, form: Expr<E>) -> Result<E, AllocError>
         ensures { IfOk result (λ x. E.view x ≡ expressions.expr E.view form) }
@@ -126,106 +124,105 @@ impl<
 impl<
     't,
     'a,
-    E: Closed<I>,
-    I: Drop,
+    E: Closed,
     N: Fn(Global, What, &Tree<'_>) -> Result<E, AllocError>,
     P: Fn(Global, Vec<Attribute<E>>, &Tree<'_>) -> Result<E, AllocError>,
     S: Fn(Global, &Tree<'_>) -> Result<Stmt<E>, AllocError>,
-> ItemMaker<E, I> for Below<'t, 'a, E, I, N, P, S>
+> ItemMaker<E, E::Item> for Below<'t, 'a, E, N, P, S>
 {
     ghost item_view = { E.item_view };
 
-    fn of_const(&self, item: ItemConst<E>) -> I
+    fn of_const(&self, item: ItemConst<E>) -> E::Item
         ensures { E.item_view result ≡ items.item_const E.view item }
     {
         E::item_of_const(item)
     }
 
-    fn of_enum(&self, item: ItemEnum<E>) -> I
+    fn of_enum(&self, item: ItemEnum<E>) -> E::Item
         ensures { E.item_view result ≡ items.item_enum E.view item }
     {
         E::item_of_enum(item)
     }
 
-    fn of_extern_crate(&self, item: ItemExternCrate<E>) -> I
+    fn of_extern_crate(&self, item: ItemExternCrate<E>) -> E::Item
         ensures { E.item_view result ≡ items.item_extern_crate E.view item }
     {
         E::item_of_extern_crate(item)
     }
 
-    fn of_fn(&self, item: ItemFn<E>) -> I
+    fn of_fn(&self, item: ItemFn<E>) -> E::Item
         ensures { E.item_view result ≡ items.item_fn E.view item }
     {
         E::item_of_fn(item)
     }
 
-    fn of_foreign_mod(&self, item: ItemForeignMod<E>) -> I
+    fn of_foreign_mod(&self, item: ItemForeignMod<E>) -> E::Item
         ensures { E.item_view result ≡ members.item_foreign_mod E.view item }
     {
         E::item_of_foreign_mod(item)
     }
 
-    fn of_impl(&self, item: ItemImpl<E>) -> I
+    fn of_impl(&self, item: ItemImpl<E>) -> E::Item
         ensures { E.item_view result ≡ members.item_impl E.view item }
     {
         E::item_of_impl(item)
     }
 
-    fn of_macro(&self, item: ItemMacro<E>) -> I
+    fn of_macro(&self, item: ItemMacro<E>) -> E::Item
         ensures { E.item_view result ≡ items.item_macro E.view item }
     {
         E::item_of_macro(item)
     }
 
-    fn of_mod(&self, item: ItemMod<E>) -> I
+    fn of_mod(&self, item: ItemMod<E>) -> E::Item
         ensures { E.item_view result ≡ items.item_mod E.view item }
     {
         E::item_of_mod(item)
     }
 
-    fn of_static(&self, item: ItemStatic<E>) -> I
+    fn of_static(&self, item: ItemStatic<E>) -> E::Item
         ensures { E.item_view result ≡ items.item_static E.view item }
     {
         E::item_of_static(item)
     }
 
-    fn of_struct(&self, item: ItemStruct<E>) -> I
+    fn of_struct(&self, item: ItemStruct<E>) -> E::Item
         ensures { E.item_view result ≡ items.item_struct E.view item }
     {
         E::item_of_struct(item)
     }
 
-    fn of_trait(&self, item: ItemTrait<E>) -> I
+    fn of_trait(&self, item: ItemTrait<E>) -> E::Item
         ensures { E.item_view result ≡ members.item_trait E.view item }
     {
         E::item_of_trait(item)
     }
 
-    fn of_trait_alias(&self, item: ItemTraitAlias<E>) -> I
+    fn of_trait_alias(&self, item: ItemTraitAlias<E>) -> E::Item
         ensures { E.item_view result ≡ members.item_trait_alias E.view item }
     {
         E::item_of_trait_alias(item)
     }
 
-    fn of_type(&self, item: ItemType<E>) -> I
+    fn of_type(&self, item: ItemType<E>) -> E::Item
         ensures { E.item_view result ≡ items.item_type E.view item }
     {
         E::item_of_type(item)
     }
 
-    fn of_union(&self, item: ItemUnion<E>) -> I
+    fn of_union(&self, item: ItemUnion<E>) -> E::Item
         ensures { E.item_view result ≡ items.item_union E.view item }
     {
         E::item_of_union(item)
     }
 
-    fn of_use(&self, item: ItemUse<E>) -> I
+    fn of_use(&self, item: ItemUse<E>) -> E::Item
         ensures { E.item_view result ≡ imports.item_use E.view item }
     {
         E::item_of_use(item)
     }
 
-    fn of_tokens(&self, tokens: TokenStream) -> I
+    fn of_tokens(&self, tokens: TokenStream) -> E::Item
         ensures { E.item_view result ≡ items.verbatim tokens }
     {
         E::item_of_tokens(tokens)

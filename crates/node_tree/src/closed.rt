@@ -25,7 +25,9 @@ use proc_macro2::tree::TokenStream;
 use std::alloc::{AllocError, Global};
 
 #[tactic(auto, using(crate::proofs::Equations::node_equations, crate::proofs::Equations::item_equations))]
-impl Closed<Item> for Node {
+impl Closed for Node {
+    type Item = Item;
+
     ghost view = { node_view };
 
     ghost item_view = { item_view };

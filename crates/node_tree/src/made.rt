@@ -18,11 +18,9 @@ use crate::item::Item;
 use crate::node::Node;
 use node_expressions::statement::Stmt;
 use node_from::What;
-use node_from_items::files::file_parts;
-use node_from_items::item as from_items;
 use node_paths::attribute::Attribute;
 use node_reads::below::Below;
-use node_reads::by::{node_by, pattern_by, statement_by};
+use node_reads::by::{file_parts_by, item_by, node_by, pattern_by, statement_by};
 use reader_tree::tree::Tree;
 use std::alloc::{AllocError, Global};
 use std::marker::PhantomData;
@@ -45,7 +43,7 @@ pub fn node(alloc: Global, what: What, tree: &Tree<'_>) -> Result<Node, AllocErr
         statement,
         nodes: PhantomData,
     };
-    node_by::<Node, Item, _>(&below, what, tree)
+    node_by::<Node, _>(&below, what, tree)
 }
 
 /// The pattern that a tree is, with attributes in front of it.
@@ -70,7 +68,7 @@ pub fn attributed_pattern(
         statement,
         nodes: PhantomData,
     };
-    pattern_by::<Node, Item, _>(&below, attrs, tree)
+    pattern_by::<Node, _>(&below, attrs, tree)
 }
 
 /// The statement that a tree is, among others; a lone `;` is one too.
@@ -91,7 +89,7 @@ pub fn statement(alloc: Global, tree: &Tree<'_>) -> Result<Stmt<Node>, AllocErro
         statement,
         nodes: PhantomData,
     };
-    statement_by::<Node, Item, _>(&below, tree)
+    statement_by::<Node, _>(&below, tree)
 }
 
 /// The item that a tree is.
@@ -111,7 +109,7 @@ pub fn item(alloc: Global, tree: &Tree<'_>) -> Result<Item, AllocError>
         statement,
         nodes: PhantomData,
     };
-    from_items::item(&below, tree)
+    item_by::<Node, _>(&below, tree)
 }
 
 /// The file that a tree is. It has no first line `#!`.
@@ -131,7 +129,7 @@ pub fn file(alloc: Global, tree: &Tree<'_>) -> Result<File, AllocError>
         statement,
         nodes: PhantomData,
     };
-    let (attrs, items) = file_parts(&below, tree)?;
+    let (attrs, items) = file_parts_by::<Node, _>(&below, tree)?;
     Ok(File {
         shebang: None,
         frontmatter: None,
