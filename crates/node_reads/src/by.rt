@@ -2,6 +2,7 @@
 
 ghost use Rattle.node_from.specs.Whats.{IsWhat, made};
 ghost use Rattle.node_from_bodies.specs.StatementParts.{a_statement};
+ghost use Rattle.node_reads.specs.Nests.{IsMade, IsWanted};
 ghost use Rattle.node_shapes.specs.Shape.{IsShaped};
 ghost use Rattle.node_views.specs.Items as items;
 ghost use Rattle.node_views.specs.Paths as paths;
@@ -14,6 +15,7 @@ ghost use Rattle.syn_grammar.specs.Kept.{kept};
 ghost use Rattle.syn_grammar.specs.Kind as k;
 
 use crate::closed::Closed;
+use crate::wanted::{Made, Wanted};
 use node_expressions::expr::Expr;
 use node_expressions::statement::Stmt;
 use node_from::What;
@@ -107,6 +109,30 @@ pub fn statement_by<E: Closed, R: Maker<E>>(
     ensures { IfOk result (λ x. statements.block_stmt E.view x ≡ kept tree.now) }
 {
     block_stmt(below, tree)
+}
+
+/// What is wanted of a tree, by what makes the nodes in it.
+///
+/// # Errors
+///
+/// Where there is no memory for it.
+pub fn make_by<E: Closed, R: ItemMaker<E, E::Item>>(
+    below: &R,
+    wanted: Wanted<E>,
+    tree: &Tree<'_>,
+) -> Result<Made<E>, AllocError>
+    requires ready { R.ready below.now }
+    requires view { R.view ≡ E.view }
+    requires item_view { R.item_view ≡ E.item_view }
+    requires shaped { IsWanted wanted tree.now }
+    requires fewer { node_count tree.now ≤ R.bound below.now }
+    ensures { IfOk result (λ x. IsMade E.view wanted x (kept tree.now)) }
+{
+    match wanted {
+        Wanted::Node(what) => Ok(Made::Node(node_by(below, what, tree)?)),
+        Wanted::Pattern(attrs) => Ok(Made::Node(pattern_by(below, attrs, tree)?)),
+        Wanted::Statement => Ok(Made::Statement(statement_by(below, tree)?)),
+    }
 }
 
 /// The item that a tree is, by what makes the nodes in it.

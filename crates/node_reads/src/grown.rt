@@ -126,11 +126,7 @@ impl<'t, 'a, E: Grown> Maker<E> for Inside<'t, 'a, E> {
         E::pattern(self.alloc, pattern)
     }
 
-    fn attributed_pattern(
-        &self,
-        attrs: Vec<Attribute<E>>,
-        tree: &Tree<'_>,
-    ) -> Result<E, AllocError>
+    fn attributed_pattern(&self, attrs: Vec<Attribute<E>>, tree: &Tree<'_>) -> Result<E, AllocError>
         requires ready { self.now.alloc ≡ self.now.alloc }
         requires shaped { IsShaped tree.now (ref k.OnePattern) }
         requires fewer { node_count tree.now < node_count self.now.above.now }

@@ -3,6 +3,7 @@
 //!
 //! - `closed`: what a type that closes the recursion is made of; `below`, `by`: what makes the nodes in a node, and the
 //!   node that a tree is by that.
+//! - `wanted`: what is wanted of a tree, and what is made of it.
 //! - `grown`: what is asked of the type that closes the recursion, and what makes the nodes in a tree by that.
 //! - `paths`, `types`, `generics`, `expressions`, `items`, `members` (private): of each type its kind and its maker.
 #![tactic(auto)]
@@ -19,10 +20,10 @@ mod items;
 mod members;
 mod paths;
 mod types;
+pub mod wanted;
 
 pub use closed::Closed;
 pub use grown::{Grown, Inside};
-
 use node_read::Makes;
 use node_traits::Reads;
 use std::marker::PhantomData;

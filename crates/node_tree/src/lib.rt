@@ -1,6 +1,6 @@
 //! Items and files, and what closes the recursion: what stands in an expression, a type, a pattern or an item.
 //!
-//! - `convert` (private): structs as the enums that hold them.
+//! - `convert` (private): structs as items; `variants` (private): structs that are taken out of items.
 //! - `file`: files; `item`: items.
 //! - `node`: what closes the recursion.
 //! - `closed` (private): what nodes and items are made of; `made`: the node that a tree is, the item and the file.
@@ -17,6 +17,7 @@ pub mod node;
 mod prints;
 mod reads;
 mod to_tree;
+mod variants;
 
 pub use file::File;
 pub use item::Item;

@@ -35,6 +35,7 @@ use syn_input::{Parse, ParseBuffer};
 
 impl Native for Node {
     type Reader = TreeReader<Node>;
+
     type Printer = TreePrinter<Node>;
 }
 
