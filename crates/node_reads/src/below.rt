@@ -82,7 +82,8 @@ impl<'t, 'a, E: Closed, M: Fn(Global, Wanted<E>, &Tree<'_>) -> Result<Made<E>, A
     }
 
     fn attributed_pattern(&self, attrs: Vec<Attribute<E>>, tree: &Tree<'_>) -> Result<E, AllocError>
-        requires ready { MakesBelow E.view (node_count self.now.above.now) (M.pre self.now.make) (M.post self.now.make) }
+        requires ready { MakesBelow E.view (node_count self.now.above.now) (M.pre self.now.make)
+            (M.post self.now.make) }
         requires shaped { IsShaped tree.now (ref k.OnePattern) }
         requires fewer { node_count tree.now < node_count self.now.above.now }
         ensures { IfOk result (λ x. E.view x ≡ patterns.behind_attributes E.view attrs.items (kept tree.now)) }
@@ -94,7 +95,8 @@ impl<'t, 'a, E: Closed, M: Fn(Global, Wanted<E>, &Tree<'_>) -> Result<Made<E>, A
     }
 
     fn statement(&self, tree: &Tree<'_>) -> Result<Stmt<E>, AllocError>
-        requires ready { MakesBelow E.view (node_count self.now.above.now) (M.pre self.now.make) (M.post self.now.make) }
+        requires ready { MakesBelow E.view (node_count self.now.above.now) (M.pre self.now.make)
+            (M.post self.now.make) }
         requires shaped { IsShaped tree.now a_statement }
         requires fewer { node_count tree.now < node_count self.now.above.now }
         ensures { IfOk result (λ x. statements.block_stmt E.view x ≡ kept tree.now) }
