@@ -1,2 +1,3 @@
+pub mod ItemForms
 pub mod Nests
 pub mod Wholes

@@ -1,7 +1,7 @@
 //! What makes the nodes in one.
 
 ghost use Rattle.node_from_bodies.specs.StatementParts.{a_statement};
-ghost use Rattle.node_reads.specs.Nests.{MakesNodes, MakesPatterns, MakesStatements};
+ghost use Rattle.node_reads.specs.Nests.{MakesBelow};
 ghost use Rattle.node_shapes.specs.Shape.{IsShaped};
 ghost use Rattle.node_views.specs.Expressions as expressions;
 ghost use Rattle.node_views.specs.Imports as imports;
@@ -15,7 +15,8 @@ ghost use Rattle.syn_grammar.specs.Gram.{ref};
 ghost use Rattle.syn_grammar.specs.Kept.{kept};
 ghost use Rattle.syn_grammar.specs.Kind as k;
 
-use crate::closed::Closed;
+use crate::closed::{Closed, ItemForm};
+use crate::wanted::{Made, Wanted};
 use node_expressions::expr::Expr;
 use node_expressions::statement::Stmt;
 use node_from::{Reader, What};
@@ -34,33 +35,21 @@ use std::marker::PhantomData;
 
 /// What makes nodes of trees that are smaller than that one.
 #[derive(Drop)]
-pub struct Below<'t, 'a, E, I, N, P, S> {
+pub struct Below<'t, 'a, E, M> {
     /// That one.
     pub above: &'t Tree<'a>,
     /// Where memory is taken from.
     pub alloc: Global,
-    /// What makes the node of a tree.
-    pub node: N,
-    /// What makes the pattern of a tree that has attributes in front.
-    pub pattern: P,
-    /// What makes the statement of a tree.
-    pub statement: S,
-    /// Of nodes and items.
-    pub nodes: PhantomData<(E, I)>,
+    /// What makes a node, a pattern or a statement of a tree.
+    pub make: M,
+    /// Of nodes.
+    pub nodes: PhantomData<E>,
 }
 
-impl<
-    't,
-    'a,
-    E: Closed<I>,
-    I: Drop,
-    N: Fn(Global, What, &Tree<'_>) -> Result<E, AllocError>,
-    P: Fn(Global, Vec<Attribute<E>>, &Tree<'_>) -> Result<E, AllocError>,
-    S: Fn(Global, &Tree<'_>) -> Result<Stmt<E>, AllocError>,
-> Reader<E> for Below<'t, 'a, E, I, N, P, S> {
-    ghost ready = { λ b. MakesNodes E.view (node_count b.above.now) (N.pre b.node) (N.post b.node)
-        × MakesPatterns E.view (node_count b.above.now) (P.pre b.pattern) (P.post b.pattern)
-        × MakesStatements E.view (node_count b.above.now) (S.pre b.statement) (S.post b.statement) };
+impl<'t, 'a, E: Closed, M: Fn(Global, Wanted<E>, &Tree<'_>) -> Result<Made<E>, AllocError>> Reader<
+    E,
+> for Below<'t, 'a, E, M> {
+    ghost ready = { λ b. MakesBelow E.view (node_count b.above.now) (M.pre b.make) (M.post b.make) };
 
     ghost bound = { λ b. node_count b.above.now };
 
@@ -71,19 +60,15 @@ impl<
     }
 
     fn node(&self, what: What, tree: &Tree<'_>) -> Result<E, AllocError> {
-        (self.node)(self.alloc, what, tree)
+        match (self.make)(self.alloc, Wanted::Node(what), tree)? {
+            Made::Node(node) => Ok(node),
+            Made::Statement(_other) => unreachable!(),
+        }
     }
 }
 
-impl<
-    't,
-    'a,
-    E: Closed<I>,
-    I: Drop,
-    N: Fn(Global, What, &Tree<'_>) -> Result<E, AllocError>,
-    P: Fn(Global, Vec<Attribute<E>>, &Tree<'_>) -> Result<E, AllocError>,
-    S: Fn(Global, &Tree<'_>) -> Result<Stmt<E>, AllocError>,
-> Maker<E> for Below<'t, 'a, E, I, N, P, S> {
+impl<'t, 'a, E: Closed, M: Fn(Global, Wanted<E>, &Tree<'_>) -> Result<Made<E>, AllocError>> Maker<E>
+    for Below<'t, 'a, E, M> {
     fn expression(&self, form: Expr<E>) -> Result<E, AllocError>
         ensures { IfOk result (λ x. E.view x ≡ expressions.expr E.view form) }
     {
@@ -97,130 +82,133 @@ impl<
     }
 
     fn attributed_pattern(&self, attrs: Vec<Attribute<E>>, tree: &Tree<'_>) -> Result<E, AllocError>
-        requires ready { MakesPatterns E.view (node_count self.now.above.now) (P.pre self.now.pattern)
-            (P.post self.now.pattern) }
+        requires ready { MakesBelow E.view (node_count self.now.above.now) (M.pre self.now.make)
+            (M.post self.now.make) }
         requires shaped { IsShaped tree.now (ref k.OnePattern) }
         requires fewer { node_count tree.now < node_count self.now.above.now }
         ensures { IfOk result (λ x. E.view x ≡ patterns.behind_attributes E.view attrs.items (kept tree.now)) }
     {
-        (self.pattern)(self.alloc, attrs, tree)
+        match (self.make)(self.alloc, Wanted::Pattern(attrs), tree)? {
+            Made::Node(pattern) => Ok(pattern),
+            Made::Statement(_other) => unreachable!(),
+        }
     }
 
     fn statement(&self, tree: &Tree<'_>) -> Result<Stmt<E>, AllocError>
-        requires ready { MakesStatements E.view (node_count self.now.above.now) (S.pre self.now.statement)
-            (S.post self.now.statement) }
+        requires ready { MakesBelow E.view (node_count self.now.above.now) (M.pre self.now.make)
+            (M.post self.now.make) }
         requires shaped { IsShaped tree.now a_statement }
         requires fewer { node_count tree.now < node_count self.now.above.now }
         ensures { IfOk result (λ x. statements.block_stmt E.view x ≡ kept tree.now) }
     {
-        (self.statement)(self.alloc, tree)
+        match (self.make)(self.alloc, Wanted::Statement, tree)? {
+            Made::Statement(statement) => Ok(statement),
+            Made::Node(_other) => unreachable!(),
+        }
     }
 }
 
 impl<
     't,
     'a,
-    E: Closed<I>,
-    I: Drop,
-    N: Fn(Global, What, &Tree<'_>) -> Result<E, AllocError>,
-    P: Fn(Global, Vec<Attribute<E>>, &Tree<'_>) -> Result<E, AllocError>,
-    S: Fn(Global, &Tree<'_>) -> Result<Stmt<E>, AllocError>,
-> ItemMaker<E, I> for Below<'t, 'a, E, I, N, P, S> {
+    E: Closed,
+    M: Fn(Global, Wanted<E>, &Tree<'_>) -> Result<Made<E>, AllocError>,
+> ItemMaker<E, E::Item> for Below<'t, 'a, E, M> {
     ghost item_view = { E.item_view };
 
-    fn of_const(&self, item: ItemConst<E>) -> I
+    fn of_const(&self, item: ItemConst<E>) -> E::Item
         ensures { E.item_view result ≡ items.item_const E.view item }
     {
-        E::item_of_const(item)
+        E::item_of(ItemForm::Const(item))
     }
 
-    fn of_enum(&self, item: ItemEnum<E>) -> I
+    fn of_enum(&self, item: ItemEnum<E>) -> E::Item
         ensures { E.item_view result ≡ items.item_enum E.view item }
     {
-        E::item_of_enum(item)
+        E::item_of(ItemForm::Enum(item))
     }
 
-    fn of_extern_crate(&self, item: ItemExternCrate<E>) -> I
+    fn of_extern_crate(&self, item: ItemExternCrate<E>) -> E::Item
         ensures { E.item_view result ≡ items.item_extern_crate E.view item }
     {
-        E::item_of_extern_crate(item)
+        E::item_of(ItemForm::ExternCrate(item))
     }
 
-    fn of_fn(&self, item: ItemFn<E>) -> I
+    fn of_fn(&self, item: ItemFn<E>) -> E::Item
         ensures { E.item_view result ≡ items.item_fn E.view item }
     {
-        E::item_of_fn(item)
+        E::item_of(ItemForm::Fn(item))
     }
 
-    fn of_foreign_mod(&self, item: ItemForeignMod<E>) -> I
+    fn of_foreign_mod(&self, item: ItemForeignMod<E>) -> E::Item
         ensures { E.item_view result ≡ members.item_foreign_mod E.view item }
     {
-        E::item_of_foreign_mod(item)
+        E::item_of(ItemForm::ForeignMod(item))
     }
 
-    fn of_impl(&self, item: ItemImpl<E>) -> I
+    fn of_impl(&self, item: ItemImpl<E>) -> E::Item
         ensures { E.item_view result ≡ members.item_impl E.view item }
     {
-        E::item_of_impl(item)
+        E::item_of(ItemForm::Impl(item))
     }
 
-    fn of_macro(&self, item: ItemMacro<E>) -> I
+    fn of_macro(&self, item: ItemMacro<E>) -> E::Item
         ensures { E.item_view result ≡ items.item_macro E.view item }
     {
-        E::item_of_macro(item)
+        E::item_of(ItemForm::Macro(item))
     }
 
-    fn of_mod(&self, item: ItemMod<E>) -> I
+    fn of_mod(&self, item: ItemMod<E>) -> E::Item
         ensures { E.item_view result ≡ items.item_mod E.view item }
     {
-        E::item_of_mod(item)
+        E::item_of(ItemForm::Mod(item))
     }
 
-    fn of_static(&self, item: ItemStatic<E>) -> I
+    fn of_static(&self, item: ItemStatic<E>) -> E::Item
         ensures { E.item_view result ≡ items.item_static E.view item }
     {
-        E::item_of_static(item)
+        E::item_of(ItemForm::Static(item))
     }
 
-    fn of_struct(&self, item: ItemStruct<E>) -> I
+    fn of_struct(&self, item: ItemStruct<E>) -> E::Item
         ensures { E.item_view result ≡ items.item_struct E.view item }
     {
-        E::item_of_struct(item)
+        E::item_of(ItemForm::Struct(item))
     }
 
-    fn of_trait(&self, item: ItemTrait<E>) -> I
+    fn of_trait(&self, item: ItemTrait<E>) -> E::Item
         ensures { E.item_view result ≡ members.item_trait E.view item }
     {
-        E::item_of_trait(item)
+        E::item_of(ItemForm::Trait(item))
     }
 
-    fn of_trait_alias(&self, item: ItemTraitAlias<E>) -> I
+    fn of_trait_alias(&self, item: ItemTraitAlias<E>) -> E::Item
         ensures { E.item_view result ≡ members.item_trait_alias E.view item }
     {
-        E::item_of_trait_alias(item)
+        E::item_of(ItemForm::TraitAlias(item))
     }
 
-    fn of_type(&self, item: ItemType<E>) -> I
+    fn of_type(&self, item: ItemType<E>) -> E::Item
         ensures { E.item_view result ≡ items.item_type E.view item }
     {
-        E::item_of_type(item)
+        E::item_of(ItemForm::Type(item))
     }
 
-    fn of_union(&self, item: ItemUnion<E>) -> I
+    fn of_union(&self, item: ItemUnion<E>) -> E::Item
         ensures { E.item_view result ≡ items.item_union E.view item }
     {
-        E::item_of_union(item)
+        E::item_of(ItemForm::Union(item))
     }
 
-    fn of_use(&self, item: ItemUse<E>) -> I
+    fn of_use(&self, item: ItemUse<E>) -> E::Item
         ensures { E.item_view result ≡ imports.item_use E.view item }
     {
-        E::item_of_use(item)
+        E::item_of(ItemForm::Use(item))
     }
 
-    fn of_tokens(&self, tokens: TokenStream) -> I
+    fn of_tokens(&self, tokens: TokenStream) -> E::Item
         ensures { E.item_view result ≡ items.verbatim tokens }
     {
-        E::item_of_tokens(tokens)
+        E::item_of(ItemForm::Verbatim(tokens))
     }
 }

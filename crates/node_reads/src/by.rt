@@ -2,7 +2,10 @@
 
 ghost use Rattle.node_from.specs.Whats.{IsWhat, made};
 ghost use Rattle.node_from_bodies.specs.StatementParts.{a_statement};
+ghost use Rattle.node_reads.specs.Nests.{IsMade, IsWanted};
 ghost use Rattle.node_shapes.specs.Shape.{IsShaped};
+ghost use Rattle.node_views.specs.Items as items;
+ghost use Rattle.node_views.specs.Paths as paths;
 ghost use Rattle.node_views.specs.Patterns as patterns;
 ghost use Rattle.node_views.specs.Statements as statements;
 ghost use Rattle.reader_tree.specs.Size.{node_count};
@@ -12,6 +15,7 @@ ghost use Rattle.syn_grammar.specs.Kept.{kept};
 ghost use Rattle.syn_grammar.specs.Kind as k;
 
 use crate::closed::Closed;
+use crate::wanted::{Made, Wanted};
 use node_expressions::expr::Expr;
 use node_expressions::statement::Stmt;
 use node_from::What;
@@ -20,6 +24,7 @@ use node_from_bodies::Maker;
 use node_from_bodies::atoms::expr_lit;
 use node_from_forms::dispatch::form;
 use node_from_forms::named::{expr_body, expr_name};
+use node_from_items::files::file_parts;
 use node_from_items::item as from_items;
 use node_from_items::item::ItemMaker;
 use node_from_parts::metas::meta;
@@ -37,7 +42,7 @@ use syn_kinds::underscore::Underscore;
 /// # Errors
 ///
 /// Where there is no memory for it.
-pub fn node_by<E: Closed<I>, I: Drop, R: ItemMaker<E, I>>(
+pub fn node_by<E: Closed, R: ItemMaker<E, E::Item>>(
     below: &R,
     what: What,
     tree: &Tree<'_>,
@@ -73,7 +78,7 @@ pub fn node_by<E: Closed<I>, I: Drop, R: ItemMaker<E, I>>(
 /// # Errors
 ///
 /// Where there is no memory for it.
-pub fn pattern_by<E: Closed<I>, I: Drop, R: Maker<E>>(
+pub fn pattern_by<E: Closed, R: Maker<E>>(
     below: &R,
     attrs: Vec<Attribute<E>>,
     tree: &Tree<'_>,
@@ -93,7 +98,7 @@ pub fn pattern_by<E: Closed<I>, I: Drop, R: Maker<E>>(
 /// # Errors
 ///
 /// Where there is no memory for it.
-pub fn statement_by<E: Closed<I>, I: Drop, R: Maker<E>>(
+pub fn statement_by<E: Closed, R: Maker<E>>(
     below: &R,
     tree: &Tree<'_>,
 ) -> Result<Stmt<E>, AllocError>
@@ -104,4 +109,66 @@ pub fn statement_by<E: Closed<I>, I: Drop, R: Maker<E>>(
     ensures { IfOk result (λ x. statements.block_stmt E.view x ≡ kept tree.now) }
 {
     block_stmt(below, tree)
+}
+
+/// What is wanted of a tree, by what makes the nodes in it.
+///
+/// # Errors
+///
+/// Where there is no memory for it.
+pub fn make_by<E: Closed, R: ItemMaker<E, E::Item>>(
+    below: &R,
+    wanted: Wanted<E>,
+    tree: &Tree<'_>,
+) -> Result<Made<E>, AllocError>
+    requires ready { R.ready below.now }
+    requires view { R.view ≡ E.view }
+    requires item_view { R.item_view ≡ E.item_view }
+    requires shaped { IsWanted wanted tree.now }
+    requires fewer { node_count tree.now ≤ R.bound below.now }
+    ensures { IfOk result (λ x. IsMade E.view wanted x (kept tree.now)) }
+{
+    match wanted {
+        Wanted::Node(what) => Ok(Made::Node(node_by(below, what, tree)?)),
+        Wanted::Pattern(attrs) => Ok(Made::Node(pattern_by(below, attrs, tree)?)),
+        Wanted::Statement => Ok(Made::Statement(statement_by(below, tree)?)),
+    }
+}
+
+/// The item that a tree is, by what makes the nodes in it.
+///
+/// # Errors
+///
+/// Where there is no memory for it.
+pub fn item_by<E: Closed, R: ItemMaker<E, E::Item>>(
+    below: &R,
+    tree: &Tree<'_>,
+) -> Result<E::Item, AllocError>
+    requires ready { R.ready below.now }
+    requires item_view { R.item_view ≡ E.item_view }
+    requires shaped { IsShaped tree.now (g.ref k.AnItem) }
+    requires fewer { node_count tree.now ≤ R.bound below.now }
+    ensures { IfOk result (λ x. E.item_view x ≡ kept tree.now) }
+{
+    from_items::item(below, tree)
+}
+
+/// The attributes within the file that a tree is, and its items, by what makes the nodes in it.
+///
+/// # Errors
+///
+/// Where there is no memory for them.
+pub fn file_parts_by<E: Closed, R: ItemMaker<E, E::Item>>(
+    below: &R,
+    tree: &Tree<'_>,
+) -> Result<(Vec<Attribute<E>>, Vec<E::Item>), AllocError>
+    requires ready { R.ready below.now }
+    requires view { R.view ≡ E.view }
+    requires item_view { R.item_view ≡ E.item_view }
+    requires shaped { IsShaped tree.now (g.ref k.AFile) }
+    requires fewer { node_count tree.now ≤ R.bound below.now }
+    ensures { IfOk result (λ p. items.file_of E.item_view (paths.inner_attributes E.view p.0.items) p.1.items
+        ≡ kept tree.now) }
+{
+    file_parts(below, tree)
 }

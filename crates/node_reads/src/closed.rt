@@ -1,9 +1,7 @@
 //! What a type that closes the recursion is made of.
 
+ghost use Rattle.node_reads.specs.ItemForms.{item_form_view};
 ghost use Rattle.node_views.specs.Expressions as expressions;
-ghost use Rattle.node_views.specs.Imports as imports;
-ghost use Rattle.node_views.specs.Items as items;
-ghost use Rattle.node_views.specs.Members as members;
 ghost use Rattle.node_views.specs.Paths as paths;
 ghost use Rattle.node_views.specs.Patterns as patterns;
 ghost use Rattle.node_views.specs.Types as types;
@@ -21,13 +19,53 @@ use node_types::Type;
 use proc_macro2::tree::TokenStream;
 use std::alloc::{AllocError, Global};
 
-/// A type that closes the recursion, by what it is made of. `I` is the type of items.
-pub trait Closed<I>: Drop {
+/// What an item is, by its form.
+#[derive(Drop)]
+pub enum ItemForm<E> {
+    /// A constant.
+    Const(ItemConst<E>),
+    /// An enum.
+    Enum(ItemEnum<E>),
+    /// A crate by its name.
+    ExternCrate(ItemExternCrate<E>),
+    /// A function.
+    Fn(ItemFn<E>),
+    /// An extern block.
+    ForeignMod(ItemForeignMod<E>),
+    /// An impl.
+    Impl(ItemImpl<E>),
+    /// A call of a macro.
+    Macro(ItemMacro<E>),
+    /// A module.
+    Mod(ItemMod<E>),
+    /// A static.
+    Static(ItemStatic<E>),
+    /// A struct.
+    Struct(ItemStruct<E>),
+    /// A trait.
+    Trait(ItemTrait<E>),
+    /// Bounds with a name.
+    TraitAlias(ItemTraitAlias<E>),
+    /// A type with another name.
+    Type(ItemType<E>),
+    /// A union.
+    Union(ItemUnion<E>),
+    /// An import.
+    Use(ItemUse<E>),
+    /// Tokens that are kept as they are.
+    Verbatim(TokenStream),
+}
+
+/// A type that closes the recursion, by what it is made of.
+pub trait Closed: Drop {
+    /// What an item is.
+    type Item: Drop;
+
     /// What a node is as a tree that a syntax tree holds.
     ghost view: { Self → GivenTree };
 
     /// What an item is as such a tree.
-    ghost item_view: { I → GivenTree };
+    ghost item_view: { Self.Item → GivenTree };
 
     /// The node of an expression.
     ///
@@ -66,70 +104,10 @@ pub trait Closed<I>: Drop {
     /// # Errors
     ///
     /// Where there is no memory for it.
-    fn of_item(alloc: Global, item: I) -> Result<Self, AllocError>
+    fn of_item(alloc: Global, item: Self::Item) -> Result<Self, AllocError>
         ensures { IfOk result (λ x. view x ≡ item_view item) };
 
-    /// The item of a constant.
-    fn item_of_const(item: ItemConst<Self>) -> I
-        ensures { item_view result ≡ items.item_const view item };
-
-    /// The item of an enum.
-    fn item_of_enum(item: ItemEnum<Self>) -> I
-        ensures { item_view result ≡ items.item_enum view item };
-
-    /// The item of a crate by its name.
-    fn item_of_extern_crate(item: ItemExternCrate<Self>) -> I
-        ensures { item_view result ≡ items.item_extern_crate view item };
-
-    /// The item of a function.
-    fn item_of_fn(item: ItemFn<Self>) -> I
-        ensures { item_view result ≡ items.item_fn view item };
-
-    /// The item of an extern block.
-    fn item_of_foreign_mod(item: ItemForeignMod<Self>) -> I
-        ensures { item_view result ≡ members.item_foreign_mod view item };
-
-    /// The item of an impl.
-    fn item_of_impl(item: ItemImpl<Self>) -> I
-        ensures { item_view result ≡ members.item_impl view item };
-
-    /// The item of a call of a macro.
-    fn item_of_macro(item: ItemMacro<Self>) -> I
-        ensures { item_view result ≡ items.item_macro view item };
-
-    /// The item of a module.
-    fn item_of_mod(item: ItemMod<Self>) -> I
-        ensures { item_view result ≡ items.item_mod view item };
-
-    /// The item of a static.
-    fn item_of_static(item: ItemStatic<Self>) -> I
-        ensures { item_view result ≡ items.item_static view item };
-
-    /// The item of a struct.
-    fn item_of_struct(item: ItemStruct<Self>) -> I
-        ensures { item_view result ≡ items.item_struct view item };
-
-    /// The item of a trait.
-    fn item_of_trait(item: ItemTrait<Self>) -> I
-        ensures { item_view result ≡ members.item_trait view item };
-
-    /// The item of a name of bounds.
-    fn item_of_trait_alias(item: ItemTraitAlias<Self>) -> I
-        ensures { item_view result ≡ members.item_trait_alias view item };
-
-    /// The item of a type with another name.
-    fn item_of_type(item: ItemType<Self>) -> I
-        ensures { item_view result ≡ items.item_type view item };
-
-    /// The item of a union.
-    fn item_of_union(item: ItemUnion<Self>) -> I
-        ensures { item_view result ≡ items.item_union view item };
-
-    /// The item of an import.
-    fn item_of_use(item: ItemUse<Self>) -> I
-        ensures { item_view result ≡ imports.item_use view item };
-
-    /// The item of tokens that are kept as they are.
-    fn item_of_tokens(tokens: TokenStream) -> I
-        ensures { item_view result ≡ items.verbatim tokens };
+    /// The item of a form.
+    fn item_of(form: ItemForm<Self>) -> Self::Item
+        ensures { item_view result ≡ item_form_view view form };
 }

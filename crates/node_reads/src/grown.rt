@@ -1,7 +1,7 @@
 //! What is asked of the type that closes the recursion.
 
-ghost use Rattle.node_from.specs.Whats.{IsWhat, made};
 ghost use Rattle.node_from_bodies.specs.StatementParts.{a_statement};
+ghost use Rattle.node_reads.specs.Nests.{IsMade, IsWanted};
 ghost use Rattle.node_shapes.specs.Shape.{IsShaped};
 ghost use Rattle.node_views.specs.Expressions as expressions;
 ghost use Rattle.node_views.specs.Patterns as patterns;
@@ -11,8 +11,9 @@ ghost use Rattle.std.specs.Prelude.{◌≡◌, ◌<◌, ◌≤◌, IfOk};
 ghost use Rattle.syn_grammar.specs.Gram.{ref};
 ghost use Rattle.syn_grammar.specs.Kept.{kept};
 ghost use Rattle.syn_grammar.specs.Kind as k;
-ghost use Rattle.syn_grammar.specs.Tree.{Tree as GivenTree};
 
+use crate::closed::Closed;
+use crate::wanted::{Made, Wanted};
 use node_expressions::expr::Expr;
 use node_expressions::statement::Stmt;
 use node_from::{Reader, What};
@@ -24,56 +25,15 @@ use std::alloc::{AllocError, Global};
 use std::marker::PhantomData;
 
 /// A type that closes the recursion, and is made of trees.
-pub trait Grown: Drop {
-    /// What a node is as a tree that a syntax tree holds.
-    ghost view: { Self → GivenTree };
-
-    /// The node that a tree is.
+pub trait Grown: Closed {
+    /// A node, a pattern or a statement of a tree.
     ///
     /// # Errors
     ///
     /// Where there is no memory for it.
-    fn node(alloc: Global, what: What, tree: &Tree<'_>) -> Result<Self, AllocError>
-        requires { IsWhat what tree.now }
-        ensures { IfOk result (λ x. view x ≡ made what (kept tree.now)) };
-
-    /// The expression of a form.
-    ///
-    /// # Errors
-    ///
-    /// Where there is no memory for it.
-    fn expression(alloc: Global, form: Expr<Self>) -> Result<Self, AllocError>
-        ensures { IfOk result (λ x. view x ≡ expressions.expr view form) };
-
-    /// The pattern that one is.
-    ///
-    /// # Errors
-    ///
-    /// Where there is no memory for it.
-    fn pattern(alloc: Global, pattern: Pat<Self>) -> Result<Self, AllocError>
-        ensures { IfOk result (λ x. view x ≡ patterns.pat view pattern) };
-
-    /// The pattern that a tree is, with attributes in front of it.
-    ///
-    /// # Errors
-    ///
-    /// Where there is no memory for it.
-    fn attributed_pattern(
-        alloc: Global,
-        attrs: Vec<Attribute<Self>>,
-        tree: &Tree<'_>,
-    ) -> Result<Self, AllocError>
-        requires { IsShaped tree.now (ref k.OnePattern) }
-        ensures { IfOk result (λ x. view x ≡ patterns.behind_attributes view attrs.items (kept tree.now)) };
-
-    /// The statement that a tree is, among others; a lone `;` is one too.
-    ///
-    /// # Errors
-    ///
-    /// Where there is no memory for it.
-    fn statement(alloc: Global, tree: &Tree<'_>) -> Result<Stmt<Self>, AllocError>
-        requires { IsShaped tree.now a_statement }
-        ensures { IfOk result (λ x. statements.block_stmt view x ≡ kept tree.now) };
+    fn make(alloc: Global, wanted: Wanted<Self>, tree: &Tree<'_>) -> Result<Made<Self>, AllocError>
+        requires { IsWanted wanted tree.now }
+        ensures { IfOk result (λ x. IsMade Self.view wanted x (kept tree.now)) };
 }
 
 /// What makes the nodes in a tree.
@@ -109,7 +69,10 @@ impl<'t, 'a, E: Grown> Reader<E> for Inside<'t, 'a, E> {
     }
 
     fn node(&self, what: What, tree: &Tree<'_>) -> Result<E, AllocError> {
-        E::node(self.alloc, what, tree)
+        match E::make(self.alloc, Wanted::Node(what), tree)? {
+            Made::Node(node) => Ok(node),
+            Made::Statement(_other) => unreachable!(),
+        }
     }
 }
 
@@ -117,13 +80,13 @@ impl<'t, 'a, E: Grown> Maker<E> for Inside<'t, 'a, E> {
     fn expression(&self, form: Expr<E>) -> Result<E, AllocError>
         ensures { IfOk result (λ x. E.view x ≡ expressions.expr E.view form) }
     {
-        E::expression(self.alloc, form)
+        E::of_expr(self.alloc, form)
     }
 
     fn pattern(&self, pattern: Pat<E>) -> Result<E, AllocError>
         ensures { IfOk result (λ x. E.view x ≡ patterns.pat E.view pattern) }
     {
-        E::pattern(self.alloc, pattern)
+        E::of_pat(self.alloc, pattern)
     }
 
     fn attributed_pattern(&self, attrs: Vec<Attribute<E>>, tree: &Tree<'_>) -> Result<E, AllocError>
@@ -132,7 +95,10 @@ impl<'t, 'a, E: Grown> Maker<E> for Inside<'t, 'a, E> {
         requires fewer { node_count tree.now < node_count self.now.above.now }
         ensures { IfOk result (λ x. E.view x ≡ patterns.behind_attributes E.view attrs.items (kept tree.now)) }
     {
-        E::attributed_pattern(self.alloc, attrs, tree)
+        match E::make(self.alloc, Wanted::Pattern(attrs), tree)? {
+            Made::Node(pattern) => Ok(pattern),
+            Made::Statement(_other) => unreachable!(),
+        }
     }
 
     fn statement(&self, tree: &Tree<'_>) -> Result<Stmt<E>, AllocError>
@@ -141,6 +107,9 @@ impl<'t, 'a, E: Grown> Maker<E> for Inside<'t, 'a, E> {
         requires fewer { node_count tree.now < node_count self.now.above.now }
         ensures { IfOk result (λ x. statements.block_stmt E.view x ≡ kept tree.now) }
     {
-        E::statement(self.alloc, tree)
+        match E::make(self.alloc, Wanted::Statement, tree)? {
+            Made::Statement(statement) => Ok(statement),
+            Made::Node(_other) => unreachable!(),
+        }
     }
 }

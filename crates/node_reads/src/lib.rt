@@ -3,6 +3,7 @@
 //!
 //! - `closed`: what a type that closes the recursion is made of; `below`, `by`: what makes the nodes in a node, and the
 //!   node that a tree is by that.
+//! - `wanted`: what is wanted of a tree, and what is made of it.
 //! - `grown`: what is asked of the type that closes the recursion, and what makes the nodes in a tree by that.
 //! - `paths`, `types`, `generics`, `expressions`, `items`, `members` (private): of each type its kind and its maker.
 //! - `named` (private): the same of what is read by a name of its own.
@@ -22,6 +23,7 @@ mod members;
 mod named;
 mod paths;
 mod types;
+pub mod wanted;
 
 pub use closed::Closed;
 pub use grown::{Grown, Inside};

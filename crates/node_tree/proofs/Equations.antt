@@ -160,6 +160,21 @@ view_verbatim x =
 
 pub ruleset node_equations = (view_expr, view_item, view_meta, view_pat, view_type)
 
-pub ruleset item_equations =
-    (view_const, view_enum, view_extern_crate, view_fn, view_foreign_mod, view_impl, view_macro, view_mod, view_static,
-    view_struct, view_trait, view_trait_alias, view_item_type, view_union, view_use, view_verbatim)
+pub ruleset item_equations = (
+  view_const,
+  view_enum,
+  view_extern_crate,
+  view_fn,
+  view_foreign_mod,
+  view_impl,
+  view_macro,
+  view_mod,
+  view_static,
+  view_struct,
+  view_trait,
+  view_trait_alias,
+  view_item_type,
+  view_union,
+  view_use,
+  view_verbatim,
+)

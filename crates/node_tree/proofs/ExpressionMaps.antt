@@ -75,26 +75,42 @@ use Rattle.node_tree.proofs.TypeMaps.{macro_map, path_map, q_self_map, return_ty
 
 abbrev pub field_pat_map : {A B : Type 0} → (A → B) → FieldPat A → FieldPat B
 field_pat_map h x =
-    record { attrs = vec_map (attribute_map h) x.attrs; member = x.member; colon_token = x.colon_token;
-    pat = h x.pat }
+    record {
+      attrs = vec_map (attribute_map h) x.attrs;
+      member = x.member;
+      colon_token = x.colon_token;
+      pat = h x.pat;
+    }
 
 abbrev pub pat_type_map : {A B : Type 0} → (A → B) → PatType A → PatType B
 pat_type_map h x =
-    record { attrs = vec_map (attribute_map h) x.attrs; pat = h x.pat; colon_token = x.colon_token;
-    ty = h x.ty }
+    record {
+      attrs = vec_map (attribute_map h) x.attrs;
+      pat = h x.pat;
+      colon_token = x.colon_token;
+      ty = h x.ty;
+    }
 
 abbrev pub pat_ident_map : {A B : Type 0} → (A → B) → PatIdent A → PatIdent B
 pat_ident_map h x =
-    record { attrs = vec_map (attribute_map h) x.attrs; by_ref = x.by_ref; mutability = x.mutability;
-    ident = x.ident; subpat = option_map (second_map h) x.subpat }
+    record {
+      attrs = vec_map (attribute_map h) x.attrs;
+      by_ref = x.by_ref;
+      mutability = x.mutability;
+      ident = x.ident;
+      subpat = option_map (second_map h) x.subpat;
+    }
 
 abbrev pub pat_lit_map : {A B : Type 0} → (A → B) → PatLit A → PatLit B
 pat_lit_map h x = record { attrs = vec_map (attribute_map h) x.attrs; minus_token = x.minus_token; lit = x.lit }
 
 abbrev pub pat_or_map : {A B : Type 0} → (A → B) → PatOr A → PatOr B
 pat_or_map h x =
-    record { attrs = vec_map (attribute_map h) x.attrs; leading_vert = x.leading_vert;
-    cases = punctuated_map h x.cases }
+    record {
+      attrs = vec_map (attribute_map h) x.attrs;
+      leading_vert = x.leading_vert;
+      cases = punctuated_map h x.cases;
+    }
 
 abbrev pub pat_paren_map : {A B : Type 0} → (A → B) → PatParen A → PatParen B
 pat_paren_map h x =
@@ -102,42 +118,69 @@ pat_paren_map h x =
 
 abbrev pub pat_path_map : {A B : Type 0} → (A → B) → PatPath A → PatPath B
 pat_path_map h x =
-    record { attrs = vec_map (attribute_map h) x.attrs; qself = option_map (q_self_map h) x.qself;
-    path = path_map h x.path }
+    record {
+      attrs = vec_map (attribute_map h) x.attrs;
+      qself = option_map (q_self_map h) x.qself;
+      path = path_map h x.path;
+    }
 
 abbrev pub pat_range_map : {A B : Type 0} → (A → B) → PatRange A → PatRange B
 pat_range_map h x =
-    record { attrs = vec_map (attribute_map h) x.attrs; start = option_map h x.start; limits = x.limits;
-    end = option_map h x.end }
+    record {
+      attrs = vec_map (attribute_map h) x.attrs;
+      start = option_map h x.start;
+      limits = x.limits;
+      end = option_map h x.end;
+    }
 
 abbrev pub pat_reference_map : {A B : Type 0} → (A → B) → PatReference A → PatReference B
 pat_reference_map h x =
-    record { attrs = vec_map (attribute_map h) x.attrs; and_token = x.and_token; mutability = x.mutability;
-    pat = h x.pat }
+    record {
+      attrs = vec_map (attribute_map h) x.attrs;
+      and_token = x.and_token;
+      mutability = x.mutability;
+      pat = h x.pat;
+    }
 
 abbrev pub pat_rest_map : {A B : Type 0} → (A → B) → PatRest A → PatRest B
 pat_rest_map h x = record { attrs = vec_map (attribute_map h) x.attrs; dot2_token = x.dot2_token }
 
 abbrev pub pat_slice_map : {A B : Type 0} → (A → B) → PatSlice A → PatSlice B
 pat_slice_map h x =
-    record { attrs = vec_map (attribute_map h) x.attrs; bracket_token = x.bracket_token;
-    elems = punctuated_map h x.elems }
+    record {
+      attrs = vec_map (attribute_map h) x.attrs;
+      bracket_token = x.bracket_token;
+      elems = punctuated_map h x.elems;
+    }
 
 abbrev pub pat_struct_map : {A B : Type 0} → (A → B) → PatStruct A → PatStruct B
 pat_struct_map h x =
-    record { attrs = vec_map (attribute_map h) x.attrs; qself = option_map (q_self_map h) x.qself;
-    path = path_map h x.path; brace_token = x.brace_token; fields = punctuated_map (field_pat_map h) x.fields;
-    rest = option_map (pat_rest_map h) x.rest }
+    record {
+      attrs = vec_map (attribute_map h) x.attrs;
+      qself = option_map (q_self_map h) x.qself;
+      path = path_map h x.path;
+      brace_token = x.brace_token;
+      fields = punctuated_map (field_pat_map h) x.fields;
+      rest = option_map (pat_rest_map h) x.rest;
+    }
 
 abbrev pub pat_tuple_map : {A B : Type 0} → (A → B) → PatTuple A → PatTuple B
 pat_tuple_map h x =
-    record { attrs = vec_map (attribute_map h) x.attrs; paren_token = x.paren_token;
-    elems = punctuated_map h x.elems }
+    record {
+      attrs = vec_map (attribute_map h) x.attrs;
+      paren_token = x.paren_token;
+      elems = punctuated_map h x.elems;
+    }
 
 abbrev pub pat_tuple_struct_map : {A B : Type 0} → (A → B) → PatTupleStruct A → PatTupleStruct B
 pat_tuple_struct_map h x =
-    record { attrs = vec_map (attribute_map h) x.attrs; qself = option_map (q_self_map h) x.qself;
-    path = path_map h x.path; paren_token = x.paren_token; elems = punctuated_map h x.elems }
+    record {
+      attrs = vec_map (attribute_map h) x.attrs;
+      qself = option_map (q_self_map h) x.qself;
+      path = path_map h x.path;
+      paren_token = x.paren_token;
+      elems = punctuated_map h x.elems;
+    }
 
 abbrev pub pat_wild_map : {A B : Type 0} → (A → B) → PatWild A → PatWild B
 pat_wild_map h x = record { attrs = vec_map (attribute_map h) x.attrs; underscore_token = x.underscore_token }
@@ -149,19 +192,33 @@ pat_map {A} {B} h b x =
 
 abbrev pub arm_map : {A B : Type 0} → (A → B) → Arm A → Arm B
 arm_map h x =
-    record { attrs = vec_map (attribute_map h) x.attrs; pat = h x.pat;
-    guard = option_map (second_map h) x.guard; fat_arrow_token = x.fat_arrow_token;
-    body = h x.body; comma = x.comma }
+    record {
+      attrs = vec_map (attribute_map h) x.attrs;
+      pat = h x.pat;
+      guard = option_map (second_map h) x.guard;
+      fat_arrow_token = x.fat_arrow_token;
+      body = h x.body;
+      comma = x.comma;
+    }
 
 abbrev pub local_init_map : {A B : Type 0} → (A → B) → LocalInit A → LocalInit B
 local_init_map h x =
-    record { eq_token = x.eq_token; expr = h x.expr;
-    diverge = option_map (second_map h) x.diverge }
+    record {
+      eq_token = x.eq_token;
+      expr = h x.expr;
+      diverge = option_map (second_map h) x.diverge;
+    }
 
 abbrev pub local_map : {A B : Type 0} → (A → B) → Local A → Local B
 local_map h x =
-    record { attrs = vec_map (attribute_map h) x.attrs; let_token = x.let_token; modifiers = x.modifiers;
-    pat = h x.pat; init = option_map (local_init_map h) x.init; semi_token = x.semi_token }
+    record {
+      attrs = vec_map (attribute_map h) x.attrs;
+      let_token = x.let_token;
+      modifiers = x.modifiers;
+      pat = h x.pat;
+      init = option_map (local_init_map h) x.init;
+      semi_token = x.semi_token;
+    }
 
 abbrev pub stmt_macro_map : {A B : Type 0} → (A → B) → StmtMacro A → StmtMacro B
 stmt_macro_map h x =
@@ -195,55 +252,100 @@ block_map h x = record { brace_token = x.brace_token; stmts = vec_map (stmt_map 
 
 abbrev pub expr_array_map : {A B : Type 0} → (A → B) → ExprArray A → ExprArray B
 expr_array_map h x =
-    record { attrs = vec_map (attribute_map h) x.attrs; bracket_token = x.bracket_token;
-    elems = punctuated_map h x.elems }
+    record {
+      attrs = vec_map (attribute_map h) x.attrs;
+      bracket_token = x.bracket_token;
+      elems = punctuated_map h x.elems;
+    }
 
 abbrev pub expr_assign_map : {A B : Type 0} → (A → B) → ExprAssign A → ExprAssign B
 expr_assign_map h x =
-    record { attrs = vec_map (attribute_map h) x.attrs; left = h x.left; eq_token = x.eq_token;
-    right = h x.right }
+    record {
+      attrs = vec_map (attribute_map h) x.attrs;
+      left = h x.left;
+      eq_token = x.eq_token;
+      right = h x.right;
+    }
 
 abbrev pub expr_async_map : {A B : Type 0} → (A → B) → ExprAsync A → ExprAsync B
 expr_async_map h x =
-    record { attrs = vec_map (attribute_map h) x.attrs; async_token = x.async_token; capture = x.capture;
-    block = block_map h x.block }
+    record {
+      attrs = vec_map (attribute_map h) x.attrs;
+      async_token = x.async_token;
+      capture = x.capture;
+      block = block_map h x.block;
+    }
 
 abbrev pub expr_await_map : {A B : Type 0} → (A → B) → ExprAwait A → ExprAwait B
 expr_await_map h x =
-    record { attrs = vec_map (attribute_map h) x.attrs; base = h x.base; dot_token = x.dot_token;
-    await_token = x.await_token }
+    record {
+      attrs = vec_map (attribute_map h) x.attrs;
+      base = h x.base;
+      dot_token = x.dot_token;
+      await_token = x.await_token;
+    }
 
 abbrev pub expr_binary_map : {A B : Type 0} → (A → B) → ExprBinary A → ExprBinary B
 expr_binary_map h x =
-    record { attrs = vec_map (attribute_map h) x.attrs; left = h x.left; op = x.op;
-    right = h x.right }
+    record {
+      attrs = vec_map (attribute_map h) x.attrs;
+      left = h x.left;
+      op = x.op;
+      right = h x.right;
+    }
 
 abbrev pub expr_block_map : {A B : Type 0} → (A → B) → ExprBlock A → ExprBlock B
 expr_block_map h x =
-    record { attrs = vec_map (attribute_map h) x.attrs; label = x.label; modifiers = x.modifiers;
-    block = block_map h x.block }
+    record {
+      attrs = vec_map (attribute_map h) x.attrs;
+      label = x.label;
+      modifiers = x.modifiers;
+      block = block_map h x.block;
+    }
 
 abbrev pub expr_break_map : {A B : Type 0} → (A → B) → ExprBreak A → ExprBreak B
 expr_break_map h x =
-    record { attrs = vec_map (attribute_map h) x.attrs; break_token = x.break_token; label = x.label;
-    expr = option_map h x.expr }
+    record {
+      attrs = vec_map (attribute_map h) x.attrs;
+      break_token = x.break_token;
+      label = x.label;
+      expr = option_map h x.expr;
+    }
 
 abbrev pub expr_call_map : {A B : Type 0} → (A → B) → ExprCall A → ExprCall B
 expr_call_map h x =
-    record { attrs = vec_map (attribute_map h) x.attrs; func = h x.func; paren_token = x.paren_token;
-    args = punctuated_map h x.args }
+    record {
+      attrs = vec_map (attribute_map h) x.attrs;
+      func = h x.func;
+      paren_token = x.paren_token;
+      args = punctuated_map h x.args;
+    }
 
 abbrev pub expr_cast_map : {A B : Type 0} → (A → B) → ExprCast A → ExprCast B
 expr_cast_map h x =
-    record { attrs = vec_map (attribute_map h) x.attrs; expr = h x.expr; as_token = x.as_token;
-    ty = h x.ty }
+    record {
+      attrs = vec_map (attribute_map h) x.attrs;
+      expr = h x.expr;
+      as_token = x.as_token;
+      ty = h x.ty;
+    }
 
 abbrev pub expr_closure_map : {A B : Type 0} → (A → B) → ExprClosure A → ExprClosure B
 expr_closure_map h x =
-    record { attrs = vec_map (attribute_map h) x.attrs; lifetimes = option_map (bound_lifetimes_map h) x.lifetimes;
-    constness = x.constness; movability = x.movability; asyncness = x.asyncness; capture = x.capture;
-    modifiers = x.modifiers; or1_token = x.or1_token; inputs = punctuated_map h x.inputs; or2_token = x.or2_token;
-    output = return_type_map h x.output; body = h x.body }
+    record {
+      attrs = vec_map (attribute_map h) x.attrs;
+      lifetimes = option_map (bound_lifetimes_map h) x.lifetimes;
+      constness = x.constness;
+      movability = x.movability;
+      asyncness = x.asyncness;
+      capture = x.capture;
+      modifiers = x.modifiers;
+      or1_token = x.or1_token;
+      inputs = punctuated_map h x.inputs;
+      or2_token = x.or2_token;
+      output = return_type_map h x.output;
+      body = h x.body;
+    }
 
 abbrev pub expr_const_map : {A B : Type 0} → (A → B) → ExprConst A → ExprConst B
 expr_const_map h x =
@@ -255,13 +357,24 @@ expr_continue_map h x =
 
 abbrev pub expr_field_map : {A B : Type 0} → (A → B) → ExprField A → ExprField B
 expr_field_map h x =
-    record { attrs = vec_map (attribute_map h) x.attrs; base = h x.base; dot_token = x.dot_token;
-    member = x.member }
+    record {
+      attrs = vec_map (attribute_map h) x.attrs;
+      base = h x.base;
+      dot_token = x.dot_token;
+      member = x.member;
+    }
 
 abbrev pub expr_for_loop_map : {A B : Type 0} → (A → B) → ExprForLoop A → ExprForLoop B
 expr_for_loop_map h x =
-    record { attrs = vec_map (attribute_map h) x.attrs; label = x.label; for_token = x.for_token;
-    pat = h x.pat; in_token = x.in_token; expr = h x.expr; body = block_map h x.body }
+    record {
+      attrs = vec_map (attribute_map h) x.attrs;
+      label = x.label;
+      for_token = x.for_token;
+      pat = h x.pat;
+      in_token = x.in_token;
+      expr = h x.expr;
+      body = block_map h x.body;
+    }
 
 abbrev pub expr_group_map : {A B : Type 0} → (A → B) → ExprGroup A → ExprGroup B
 expr_group_map h x =
@@ -269,43 +382,72 @@ expr_group_map h x =
 
 abbrev pub expr_if_map : {A B : Type 0} → (A → B) → ExprIf A → ExprIf B
 expr_if_map h x =
-    record { attrs = vec_map (attribute_map h) x.attrs; if_token = x.if_token; cond = h x.cond;
-    then_branch = block_map h x.then_branch; else_branch = option_map (second_map h) x.else_branch }
+    record {
+      attrs = vec_map (attribute_map h) x.attrs;
+      if_token = x.if_token;
+      cond = h x.cond;
+      then_branch = block_map h x.then_branch;
+      else_branch = option_map (second_map h) x.else_branch;
+    }
 
 abbrev pub expr_index_map : {A B : Type 0} → (A → B) → ExprIndex A → ExprIndex B
 expr_index_map h x =
-    record { attrs = vec_map (attribute_map h) x.attrs; expr = h x.expr; bracket_token = x.bracket_token;
-    index = h x.index }
+    record {
+      attrs = vec_map (attribute_map h) x.attrs;
+      expr = h x.expr;
+      bracket_token = x.bracket_token;
+      index = h x.index;
+    }
 
 abbrev pub expr_infer_map : {A B : Type 0} → (A → B) → ExprInfer A → ExprInfer B
 expr_infer_map h x = record { attrs = vec_map (attribute_map h) x.attrs; underscore_token = x.underscore_token }
 
 abbrev pub expr_let_map : {A B : Type 0} → (A → B) → ExprLet A → ExprLet B
 expr_let_map h x =
-    record { attrs = vec_map (attribute_map h) x.attrs; let_token = x.let_token; pat = h x.pat;
-    eq_token = x.eq_token; expr = h x.expr }
+    record {
+      attrs = vec_map (attribute_map h) x.attrs;
+      let_token = x.let_token;
+      pat = h x.pat;
+      eq_token = x.eq_token;
+      expr = h x.expr;
+    }
 
 abbrev pub expr_lit_map : {A B : Type 0} → (A → B) → ExprLit A → ExprLit B
 expr_lit_map h x = record { attrs = vec_map (attribute_map h) x.attrs; lit = x.lit }
 
 abbrev pub expr_loop_map : {A B : Type 0} → (A → B) → ExprLoop A → ExprLoop B
 expr_loop_map h x =
-    record { attrs = vec_map (attribute_map h) x.attrs; label = x.label; loop_token = x.loop_token;
-    body = block_map h x.body }
+    record {
+      attrs = vec_map (attribute_map h) x.attrs;
+      label = x.label;
+      loop_token = x.loop_token;
+      body = block_map h x.body;
+    }
 
 abbrev pub expr_macro_map : {A B : Type 0} → (A → B) → ExprMacro A → ExprMacro B
 expr_macro_map h x = record { attrs = vec_map (attribute_map h) x.attrs; mac = macro_map h x.mac }
 
 abbrev pub expr_match_map : {A B : Type 0} → (A → B) → ExprMatch A → ExprMatch B
 expr_match_map h x =
-    record { attrs = vec_map (attribute_map h) x.attrs; match_token = x.match_token; expr = h x.expr;
-    brace_token = x.brace_token; arms = vec_map (arm_map h) x.arms }
+    record {
+      attrs = vec_map (attribute_map h) x.attrs;
+      match_token = x.match_token;
+      expr = h x.expr;
+      brace_token = x.brace_token;
+      arms = vec_map (arm_map h) x.arms;
+    }
 
 abbrev pub expr_method_call_map : {A B : Type 0} → (A → B) → ExprMethodCall A → ExprMethodCall B
 expr_method_call_map h x =
-    record { attrs = vec_map (attribute_map h) x.attrs; receiver = h x.receiver; dot_token = x.dot_token;
-    method = x.method; turbofish = option_map (angle_bracketed_generic_arguments_map h) x.turbofish;
-    paren_token = x.paren_token; args = punctuated_map h x.args }
+    record {
+      attrs = vec_map (attribute_map h) x.attrs;
+      receiver = h x.receiver;
+      dot_token = x.dot_token;
+      method = x.method;
+      turbofish = option_map (angle_bracketed_generic_arguments_map h) x.turbofish;
+      paren_token = x.paren_token;
+      args = punctuated_map h x.args;
+    }
 
 abbrev pub expr_paren_map : {A B : Type 0} → (A → B) → ExprParen A → ExprParen B
 expr_paren_map h x =
@@ -313,44 +455,78 @@ expr_paren_map h x =
 
 abbrev pub expr_path_map : {A B : Type 0} → (A → B) → ExprPath A → ExprPath B
 expr_path_map h x =
-    record { attrs = vec_map (attribute_map h) x.attrs; qself = option_map (q_self_map h) x.qself;
-    path = path_map h x.path }
+    record {
+      attrs = vec_map (attribute_map h) x.attrs;
+      qself = option_map (q_self_map h) x.qself;
+      path = path_map h x.path;
+    }
 
 abbrev pub expr_range_map : {A B : Type 0} → (A → B) → ExprRange A → ExprRange B
 expr_range_map h x =
-    record { attrs = vec_map (attribute_map h) x.attrs; start = option_map h x.start; limits = x.limits;
-    end = option_map h x.end }
+    record {
+      attrs = vec_map (attribute_map h) x.attrs;
+      start = option_map h x.start;
+      limits = x.limits;
+      end = option_map h x.end;
+    }
 
 abbrev pub expr_raw_addr_map : {A B : Type 0} → (A → B) → ExprRawAddr A → ExprRawAddr B
 expr_raw_addr_map h x =
-    record { attrs = vec_map (attribute_map h) x.attrs; and_token = x.and_token; raw = x.raw;
-    mutability = x.mutability; expr = h x.expr }
+    record {
+      attrs = vec_map (attribute_map h) x.attrs;
+      and_token = x.and_token;
+      raw = x.raw;
+      mutability = x.mutability;
+      expr = h x.expr;
+    }
 
 abbrev pub expr_reference_map : {A B : Type 0} → (A → B) → ExprReference A → ExprReference B
 expr_reference_map h x =
-    record { attrs = vec_map (attribute_map h) x.attrs; and_token = x.and_token; mutability = x.mutability;
-    expr = h x.expr }
+    record {
+      attrs = vec_map (attribute_map h) x.attrs;
+      and_token = x.and_token;
+      mutability = x.mutability;
+      expr = h x.expr;
+    }
 
 abbrev pub expr_repeat_map : {A B : Type 0} → (A → B) → ExprRepeat A → ExprRepeat B
 expr_repeat_map h x =
-    record { attrs = vec_map (attribute_map h) x.attrs; bracket_token = x.bracket_token; expr = h x.expr;
-    semi_token = x.semi_token; len = h x.len }
+    record {
+      attrs = vec_map (attribute_map h) x.attrs;
+      bracket_token = x.bracket_token;
+      expr = h x.expr;
+      semi_token = x.semi_token;
+      len = h x.len;
+    }
 
 abbrev pub expr_return_map : {A B : Type 0} → (A → B) → ExprReturn A → ExprReturn B
 expr_return_map h x =
-    record { attrs = vec_map (attribute_map h) x.attrs; return_token = x.return_token;
-    expr = option_map h x.expr }
+    record {
+      attrs = vec_map (attribute_map h) x.attrs;
+      return_token = x.return_token;
+      expr = option_map h x.expr;
+    }
 
 abbrev pub field_value_map : {A B : Type 0} → (A → B) → FieldValue A → FieldValue B
 field_value_map h x =
-    record { attrs = vec_map (attribute_map h) x.attrs; member = x.member; colon_token = x.colon_token;
-    expr = h x.expr }
+    record {
+      attrs = vec_map (attribute_map h) x.attrs;
+      member = x.member;
+      colon_token = x.colon_token;
+      expr = h x.expr;
+    }
 
 abbrev pub expr_struct_map : {A B : Type 0} → (A → B) → ExprStruct A → ExprStruct B
 expr_struct_map h x =
-    record { attrs = vec_map (attribute_map h) x.attrs; qself = option_map (q_self_map h) x.qself;
-    path = path_map h x.path; brace_token = x.brace_token; fields = punctuated_map (field_value_map h) x.fields;
-    dot2_token = x.dot2_token; rest = option_map h x.rest }
+    record {
+      attrs = vec_map (attribute_map h) x.attrs;
+      qself = option_map (q_self_map h) x.qself;
+      path = path_map h x.path;
+      brace_token = x.brace_token;
+      fields = punctuated_map (field_value_map h) x.fields;
+      dot2_token = x.dot2_token;
+      rest = option_map h x.rest;
+    }
 
 abbrev pub expr_try_map : {A B : Type 0} → (A → B) → ExprTry A → ExprTry B
 expr_try_map h x =
@@ -362,8 +538,11 @@ expr_try_block_map h x =
 
 abbrev pub expr_tuple_map : {A B : Type 0} → (A → B) → ExprTuple A → ExprTuple B
 expr_tuple_map h x =
-    record { attrs = vec_map (attribute_map h) x.attrs; paren_token = x.paren_token;
-    elems = punctuated_map h x.elems }
+    record {
+      attrs = vec_map (attribute_map h) x.attrs;
+      paren_token = x.paren_token;
+      elems = punctuated_map h x.elems;
+    }
 
 abbrev pub expr_unary_map : {A B : Type 0} → (A → B) → ExprUnary A → ExprUnary B
 expr_unary_map h x = record { attrs = vec_map (attribute_map h) x.attrs; op = x.op; expr = h x.expr }
@@ -374,13 +553,21 @@ expr_unsafe_map h x =
 
 abbrev pub expr_while_map : {A B : Type 0} → (A → B) → ExprWhile A → ExprWhile B
 expr_while_map h x =
-    record { attrs = vec_map (attribute_map h) x.attrs; label = x.label; while_token = x.while_token;
-    cond = h x.cond; body = block_map h x.body }
+    record {
+      attrs = vec_map (attribute_map h) x.attrs;
+      label = x.label;
+      while_token = x.while_token;
+      cond = h x.cond;
+      body = block_map h x.body;
+    }
 
 abbrev pub expr_yield_map : {A B : Type 0} → (A → B) → ExprYield A → ExprYield B
 expr_yield_map h x =
-    record { attrs = vec_map (attribute_map h) x.attrs; yield_token = x.yield_token;
-    expr = option_map h x.expr }
+    record {
+      attrs = vec_map (attribute_map h) x.attrs;
+      yield_token = x.yield_token;
+      expr = option_map h x.expr;
+    }
 
 -- in the box that a node has
 abbrev pub expr_map : {A B C : Type 0} → (A → B) → Box C Global → Expr A → Expr B

@@ -61,9 +61,15 @@ use Rattle.node_tree.proofs.TypeMaps.{type_param_bound_map, visibility_map}
 
 abbrev pub field_map : {A B : Type 0} → (A → B) → Field A → Field B
 field_map h x =
-    record { attrs = vec_map (attribute_map h) x.attrs; vis = visibility_map h x.vis; modifiers = x.modifiers;
-    ident = x.ident; colon_token = x.colon_token; ty = type_map h x.ty;
-    default = option_map (second_map h) x.default }
+    record {
+      attrs = vec_map (attribute_map h) x.attrs;
+      vis = visibility_map h x.vis;
+      modifiers = x.modifiers;
+      ident = x.ident;
+      colon_token = x.colon_token;
+      ty = type_map h x.ty;
+      default = option_map (second_map h) x.default;
+    }
 
 abbrev pub fields_named_map : {A B : Type 0} → (A → B) → FieldsNamed A → FieldsNamed B
 fields_named_map h x = record { brace_token = x.brace_token; named = punctuated_map (field_map h) x.named }
@@ -113,8 +119,12 @@ receiver_kind_map h x =
 
 abbrev pub receiver_map : {A B : Type 0} → (A → B) → Receiver A → Receiver B
 receiver_map h x =
-    record { attrs = vec_map (attribute_map h) x.attrs; mutability = x.mutability; self_token = x.self_token;
-    kind = receiver_kind_map h x.kind }
+    record {
+      attrs = vec_map (attribute_map h) x.attrs;
+      mutability = x.mutability;
+      self_token = x.self_token;
+      kind = receiver_kind_map h x.kind;
+    }
 
 abbrev pub FnArgCases : Type 0 → Type 0
 FnArgCases A = (Receiver A × Unit {0}) ⊎ ((PatType A × Unit {0}) ⊎ ⊥)
@@ -135,20 +145,38 @@ fn_arg_map h x =
 
 abbrev pub variadic_map : {A B : Type 0} → (A → B) → Variadic A → Variadic B
 variadic_map h x =
-    record { attrs = vec_map (attribute_map h) x.attrs; pat = option_map (first_map h) x.pat;
-    dots = x.dots; comma = x.comma }
+    record {
+      attrs = vec_map (attribute_map h) x.attrs;
+      pat = option_map (first_map h) x.pat;
+      dots = x.dots;
+      comma = x.comma;
+    }
 
 abbrev pub signature_map : {A B : Type 0} → (A → B) → Signature A → Signature B
 signature_map h x =
-    record { constness = x.constness; asyncness = x.asyncness; safety = x.safety; abi = x.abi;
-    fn_token = x.fn_token; ident = x.ident; generics = generics_map h x.generics; paren_token = x.paren_token;
-    inputs = punctuated_map (fn_arg_map h) x.inputs; variadic = option_map (variadic_map h) x.variadic;
-    output = return_type_map h x.output }
+    record {
+      constness = x.constness;
+      asyncness = x.asyncness;
+      safety = x.safety;
+      abi = x.abi;
+      fn_token = x.fn_token;
+      ident = x.ident;
+      generics = generics_map h x.generics;
+      paren_token = x.paren_token;
+      inputs = punctuated_map (fn_arg_map h) x.inputs;
+      variadic = option_map (variadic_map h) x.variadic;
+      output = return_type_map h x.output;
+    }
 
 abbrev pub foreign_item_fn_map : {A B : Type 0} → (A → B) → ForeignItemFn A → ForeignItemFn B
 foreign_item_fn_map h x =
-    record { attrs = vec_map (attribute_map h) x.attrs; vis = visibility_map h x.vis; modifiers = x.modifiers;
-    sig = signature_map h x.sig; semi_token = x.semi_token }
+    record {
+      attrs = vec_map (attribute_map h) x.attrs;
+      vis = visibility_map h x.vis;
+      modifiers = x.modifiers;
+      sig = signature_map h x.sig;
+      semi_token = x.semi_token;
+    }
 
 abbrev pub foreign_item_macro_map : {A B : Type 0} → (A → B) → ForeignItemMacro A → ForeignItemMacro B
 foreign_item_macro_map h x =
@@ -156,14 +184,29 @@ foreign_item_macro_map h x =
 
 abbrev pub foreign_item_static_map : {A B : Type 0} → (A → B) → ForeignItemStatic A → ForeignItemStatic B
 foreign_item_static_map h x =
-    record { attrs = vec_map (attribute_map h) x.attrs; vis = visibility_map h x.vis; safety = x.safety;
-    static_token = x.static_token; mutability = x.mutability; ident = x.ident; colon_token = x.colon_token;
-    ty = box_map (type_map h) x.ty; semi_token = x.semi_token }
+    record {
+      attrs = vec_map (attribute_map h) x.attrs;
+      vis = visibility_map h x.vis;
+      safety = x.safety;
+      static_token = x.static_token;
+      mutability = x.mutability;
+      ident = x.ident;
+      colon_token = x.colon_token;
+      ty = box_map (type_map h) x.ty;
+      semi_token = x.semi_token;
+    }
 
 abbrev pub foreign_item_type_map : {A B : Type 0} → (A → B) → ForeignItemType A → ForeignItemType B
 foreign_item_type_map h x =
-    record { attrs = vec_map (attribute_map h) x.attrs; vis = visibility_map h x.vis; modifiers = x.modifiers;
-    type_token = x.type_token; ident = x.ident; generics = generics_map h x.generics; semi_token = x.semi_token }
+    record {
+      attrs = vec_map (attribute_map h) x.attrs;
+      vis = visibility_map h x.vis;
+      modifiers = x.modifiers;
+      type_token = x.type_token;
+      ident = x.ident;
+      generics = generics_map h x.generics;
+      semi_token = x.semi_token;
+    }
 
 abbrev pub ForeignItemCases : Type 0 → Type 0
 ForeignItemCases A =
@@ -193,14 +236,29 @@ foreign_item_map h x =
 
 abbrev pub impl_item_const_map : {A B : Type 0} → (A → B) → ImplItemConst A → ImplItemConst B
 impl_item_const_map h x =
-    record { attrs = vec_map (attribute_map h) x.attrs; vis = visibility_map h x.vis; modifiers = x.modifiers;
-    const_token = x.const_token; ident = x.ident; generics = generics_map h x.generics; colon_token = x.colon_token;
-    ty = type_map h x.ty; eq_token = x.eq_token; expr = h x.expr; semi_token = x.semi_token }
+    record {
+      attrs = vec_map (attribute_map h) x.attrs;
+      vis = visibility_map h x.vis;
+      modifiers = x.modifiers;
+      const_token = x.const_token;
+      ident = x.ident;
+      generics = generics_map h x.generics;
+      colon_token = x.colon_token;
+      ty = type_map h x.ty;
+      eq_token = x.eq_token;
+      expr = h x.expr;
+      semi_token = x.semi_token;
+    }
 
 abbrev pub impl_item_fn_map : {A B : Type 0} → (A → B) → ImplItemFn A → ImplItemFn B
 impl_item_fn_map h x =
-    record { attrs = vec_map (attribute_map h) x.attrs; vis = visibility_map h x.vis; modifiers = x.modifiers;
-    sig = signature_map h x.sig; block = block_map h x.block }
+    record {
+      attrs = vec_map (attribute_map h) x.attrs;
+      vis = visibility_map h x.vis;
+      modifiers = x.modifiers;
+      sig = signature_map h x.sig;
+      block = block_map h x.block;
+    }
 
 abbrev pub impl_item_macro_map : {A B : Type 0} → (A → B) → ImplItemMacro A → ImplItemMacro B
 impl_item_macro_map h x =
@@ -208,9 +266,17 @@ impl_item_macro_map h x =
 
 abbrev pub impl_item_type_map : {A B : Type 0} → (A → B) → ImplItemType A → ImplItemType B
 impl_item_type_map h x =
-    record { attrs = vec_map (attribute_map h) x.attrs; vis = visibility_map h x.vis; modifiers = x.modifiers;
-    type_token = x.type_token; ident = x.ident; generics = generics_map h x.generics; eq_token = x.eq_token;
-    ty = type_map h x.ty; semi_token = x.semi_token }
+    record {
+      attrs = vec_map (attribute_map h) x.attrs;
+      vis = visibility_map h x.vis;
+      modifiers = x.modifiers;
+      type_token = x.type_token;
+      ident = x.ident;
+      generics = generics_map h x.generics;
+      eq_token = x.eq_token;
+      ty = type_map h x.ty;
+      semi_token = x.semi_token;
+    }
 
 abbrev pub ImplItemCases : Type 0 → Type 0
 ImplItemCases A =
@@ -240,89 +306,185 @@ impl_item_map h x =
 
 abbrev pub item_const_map : {A B : Type 0} → (A → B) → ItemConst A → ItemConst B
 item_const_map h x =
-    record { attrs = vec_map (attribute_map h) x.attrs; vis = visibility_map h x.vis; modifiers = x.modifiers;
-    const_token = x.const_token; ident = x.ident; generics = generics_map h x.generics; colon_token = x.colon_token;
-    ty = box_map (type_map h) x.ty; eq_token = x.eq_token; expr = h x.expr; semi_token = x.semi_token }
+    record {
+      attrs = vec_map (attribute_map h) x.attrs;
+      vis = visibility_map h x.vis;
+      modifiers = x.modifiers;
+      const_token = x.const_token;
+      ident = x.ident;
+      generics = generics_map h x.generics;
+      colon_token = x.colon_token;
+      ty = box_map (type_map h) x.ty;
+      eq_token = x.eq_token;
+      expr = h x.expr;
+      semi_token = x.semi_token;
+    }
 
 abbrev pub variant_map : {A B : Type 0} → (A → B) → Variant A → Variant B
 variant_map h x =
-    record { attrs = vec_map (attribute_map h) x.attrs; ident = x.ident; fields = fields_map h x.fields;
-    discriminant = option_map (second_map h) x.discriminant }
+    record {
+      attrs = vec_map (attribute_map h) x.attrs;
+      ident = x.ident;
+      fields = fields_map h x.fields;
+      discriminant = option_map (second_map h) x.discriminant;
+    }
 
 abbrev pub item_enum_map : {A B : Type 0} → (A → B) → ItemEnum A → ItemEnum B
 item_enum_map h x =
-    record { attrs = vec_map (attribute_map h) x.attrs; vis = visibility_map h x.vis; enum_token = x.enum_token;
-    ident = x.ident; generics = generics_map h x.generics; brace_token = x.brace_token;
-    variants = punctuated_map (variant_map h) x.variants }
+    record {
+      attrs = vec_map (attribute_map h) x.attrs;
+      vis = visibility_map h x.vis;
+      enum_token = x.enum_token;
+      ident = x.ident;
+      generics = generics_map h x.generics;
+      brace_token = x.brace_token;
+      variants = punctuated_map (variant_map h) x.variants;
+    }
 
 abbrev pub item_extern_crate_map : {A B : Type 0} → (A → B) → ItemExternCrate A → ItemExternCrate B
 item_extern_crate_map h x =
-    record { attrs = vec_map (attribute_map h) x.attrs; vis = visibility_map h x.vis; extern_token = x.extern_token;
-    crate_token = x.crate_token; ident = x.ident; rename = x.rename; semi_token = x.semi_token }
+    record {
+      attrs = vec_map (attribute_map h) x.attrs;
+      vis = visibility_map h x.vis;
+      extern_token = x.extern_token;
+      crate_token = x.crate_token;
+      ident = x.ident;
+      rename = x.rename;
+      semi_token = x.semi_token;
+    }
 
 abbrev pub item_fn_map : {A B : Type 0} → (A → B) → ItemFn A → ItemFn B
 item_fn_map h x =
-    record { attrs = vec_map (attribute_map h) x.attrs; vis = visibility_map h x.vis; modifiers = x.modifiers;
-    sig = signature_map h x.sig; block = box_map (block_map h) x.block }
+    record {
+      attrs = vec_map (attribute_map h) x.attrs;
+      vis = visibility_map h x.vis;
+      modifiers = x.modifiers;
+      sig = signature_map h x.sig;
+      block = box_map (block_map h) x.block;
+    }
 
 abbrev pub item_foreign_mod_map : {A B : Type 0} → (A → B) → ItemForeignMod A → ItemForeignMod B
 item_foreign_mod_map h x =
-    record { attrs = vec_map (attribute_map h) x.attrs; unsafety = x.unsafety; abi = x.abi;
-    brace_token = x.brace_token; items = vec_map (foreign_item_map h) x.items }
+    record {
+      attrs = vec_map (attribute_map h) x.attrs;
+      unsafety = x.unsafety;
+      abi = x.abi;
+      brace_token = x.brace_token;
+      items = vec_map (foreign_item_map h) x.items;
+    }
 
 abbrev pub item_impl_map : {A B : Type 0} → (A → B) → ItemImpl A → ItemImpl B
 item_impl_map h x =
-    record { attrs = vec_map (attribute_map h) x.attrs; modifiers = x.modifiers; unsafety = x.unsafety;
-    impl_token = x.impl_token; generics = generics_map h x.generics;
-    trait_ = option_map (first_map (path_map h)) x.trait_; self_ty = box_map (type_map h) x.self_ty;
-    brace_token = x.brace_token; items = vec_map (impl_item_map h) x.items }
+    record {
+      attrs = vec_map (attribute_map h) x.attrs;
+      modifiers = x.modifiers;
+      unsafety = x.unsafety;
+      impl_token = x.impl_token;
+      generics = generics_map h x.generics;
+      trait_ = option_map (first_map (path_map h)) x.trait_;
+      self_ty = box_map (type_map h) x.self_ty;
+      brace_token = x.brace_token;
+      items = vec_map (impl_item_map h) x.items;
+    }
 
 abbrev pub item_macro_map : {A B : Type 0} → (A → B) → ItemMacro A → ItemMacro B
 item_macro_map h x =
-    record { attrs = vec_map (attribute_map h) x.attrs; ident = x.ident; mac = macro_map h x.mac;
-    semi_token = x.semi_token }
+    record {
+      attrs = vec_map (attribute_map h) x.attrs;
+      ident = x.ident;
+      mac = macro_map h x.mac;
+      semi_token = x.semi_token;
+    }
 
 abbrev pub item_mod_map : {A B : Type 0} → (A → B) → ItemMod A → ItemMod B
 item_mod_map h x =
-    record { attrs = vec_map (attribute_map h) x.attrs; vis = visibility_map h x.vis; unsafety = x.unsafety;
-    mod_token = x.mod_token; ident = x.ident; content = option_map (second_map (vec_map h)) x.content;
-    semi = x.semi }
+    record {
+      attrs = vec_map (attribute_map h) x.attrs;
+      vis = visibility_map h x.vis;
+      unsafety = x.unsafety;
+      mod_token = x.mod_token;
+      ident = x.ident;
+      content = option_map (second_map (vec_map h)) x.content;
+      semi = x.semi;
+    }
 
 abbrev pub item_static_map : {A B : Type 0} → (A → B) → ItemStatic A → ItemStatic B
 item_static_map h x =
-    record { attrs = vec_map (attribute_map h) x.attrs; vis = visibility_map h x.vis; static_token = x.static_token;
-    mutability = x.mutability; ident = x.ident; colon_token = x.colon_token; ty = box_map (type_map h) x.ty;
-    eq_token = x.eq_token; expr = h x.expr; semi_token = x.semi_token }
+    record {
+      attrs = vec_map (attribute_map h) x.attrs;
+      vis = visibility_map h x.vis;
+      static_token = x.static_token;
+      mutability = x.mutability;
+      ident = x.ident;
+      colon_token = x.colon_token;
+      ty = box_map (type_map h) x.ty;
+      eq_token = x.eq_token;
+      expr = h x.expr;
+      semi_token = x.semi_token;
+    }
 
 abbrev pub item_struct_map : {A B : Type 0} → (A → B) → ItemStruct A → ItemStruct B
 item_struct_map h x =
-    record { attrs = vec_map (attribute_map h) x.attrs; vis = visibility_map h x.vis; struct_token = x.struct_token;
-    ident = x.ident; generics = generics_map h x.generics; fields = fields_map h x.fields;
-    semi_token = x.semi_token }
+    record {
+      attrs = vec_map (attribute_map h) x.attrs;
+      vis = visibility_map h x.vis;
+      struct_token = x.struct_token;
+      ident = x.ident;
+      generics = generics_map h x.generics;
+      fields = fields_map h x.fields;
+      semi_token = x.semi_token;
+    }
 
 abbrev pub item_trait_alias_map : {A B : Type 0} → (A → B) → ItemTraitAlias A → ItemTraitAlias B
 item_trait_alias_map h x =
-    record { attrs = vec_map (attribute_map h) x.attrs; vis = visibility_map h x.vis; trait_token = x.trait_token;
-    ident = x.ident; generics = generics_map h x.generics; eq_token = x.eq_token;
-    bounds = punctuated_map (type_param_bound_map h) x.bounds; semi_token = x.semi_token }
+    record {
+      attrs = vec_map (attribute_map h) x.attrs;
+      vis = visibility_map h x.vis;
+      trait_token = x.trait_token;
+      ident = x.ident;
+      generics = generics_map h x.generics;
+      eq_token = x.eq_token;
+      bounds = punctuated_map (type_param_bound_map h) x.bounds;
+      semi_token = x.semi_token;
+    }
 
 abbrev pub trait_item_const_map : {A B : Type 0} → (A → B) → TraitItemConst A → TraitItemConst B
 trait_item_const_map h x =
-    record { attrs = vec_map (attribute_map h) x.attrs; modifiers = x.modifiers; const_token = x.const_token;
-    ident = x.ident; generics = generics_map h x.generics; colon_token = x.colon_token; ty = type_map h x.ty;
-    default = option_map (second_map h) x.default; semi_token = x.semi_token }
+    record {
+      attrs = vec_map (attribute_map h) x.attrs;
+      modifiers = x.modifiers;
+      const_token = x.const_token;
+      ident = x.ident;
+      generics = generics_map h x.generics;
+      colon_token = x.colon_token;
+      ty = type_map h x.ty;
+      default = option_map (second_map h) x.default;
+      semi_token = x.semi_token;
+    }
 
 abbrev pub trait_item_fn_map : {A B : Type 0} → (A → B) → TraitItemFn A → TraitItemFn B
 trait_item_fn_map h x =
-    record { attrs = vec_map (attribute_map h) x.attrs; modifiers = x.modifiers; sig = signature_map h x.sig;
-    default = option_map (block_map h) x.default; semi_token = x.semi_token }
+    record {
+      attrs = vec_map (attribute_map h) x.attrs;
+      modifiers = x.modifiers;
+      sig = signature_map h x.sig;
+      default = option_map (block_map h) x.default;
+      semi_token = x.semi_token;
+    }
 
 abbrev pub trait_item_type_map : {A B : Type 0} → (A → B) → TraitItemType A → TraitItemType B
 trait_item_type_map h x =
-    record { attrs = vec_map (attribute_map h) x.attrs; modifiers = x.modifiers; type_token = x.type_token;
-    ident = x.ident; generics = generics_map h x.generics; colon_token = x.colon_token;
-    bounds = punctuated_map (type_param_bound_map h) x.bounds;
-    default = option_map (second_map (type_map h)) x.default; semi_token = x.semi_token }
+    record {
+      attrs = vec_map (attribute_map h) x.attrs;
+      modifiers = x.modifiers;
+      type_token = x.type_token;
+      ident = x.ident;
+      generics = generics_map h x.generics;
+      colon_token = x.colon_token;
+      bounds = punctuated_map (type_param_bound_map h) x.bounds;
+      default = option_map (second_map (type_map h)) x.default;
+      semi_token = x.semi_token;
+    }
 
 abbrev pub trait_item_macro_map : {A B : Type 0} → (A → B) → TraitItemMacro A → TraitItemMacro B
 trait_item_macro_map h x =
@@ -356,23 +518,53 @@ trait_item_map h x =
 
 abbrev pub item_trait_map : {A B : Type 0} → (A → B) → ItemTrait A → ItemTrait B
 item_trait_map h x =
-    record { attrs = vec_map (attribute_map h) x.attrs; vis = visibility_map h x.vis; modifiers = x.modifiers;
-    unsafety = x.unsafety; trait_token = x.trait_token; ident = x.ident; generics = generics_map h x.generics;
-    colon_token = x.colon_token; supertraits = punctuated_map (type_param_bound_map h) x.supertraits;
-    brace_token = x.brace_token; items = vec_map (trait_item_map h) x.items }
+    record {
+      attrs = vec_map (attribute_map h) x.attrs;
+      vis = visibility_map h x.vis;
+      modifiers = x.modifiers;
+      unsafety = x.unsafety;
+      trait_token = x.trait_token;
+      ident = x.ident;
+      generics = generics_map h x.generics;
+      colon_token = x.colon_token;
+      supertraits = punctuated_map (type_param_bound_map h) x.supertraits;
+      brace_token = x.brace_token;
+      items = vec_map (trait_item_map h) x.items;
+    }
 
 abbrev pub item_type_map : {A B : Type 0} → (A → B) → ItemType A → ItemType B
 item_type_map h x =
-    record { attrs = vec_map (attribute_map h) x.attrs; vis = visibility_map h x.vis; modifiers = x.modifiers;
-    type_token = x.type_token; ident = x.ident; generics = generics_map h x.generics; eq_token = x.eq_token;
-    ty = box_map (type_map h) x.ty; semi_token = x.semi_token; where_clause_placement = x.where_clause_placement }
+    record {
+      attrs = vec_map (attribute_map h) x.attrs;
+      vis = visibility_map h x.vis;
+      modifiers = x.modifiers;
+      type_token = x.type_token;
+      ident = x.ident;
+      generics = generics_map h x.generics;
+      eq_token = x.eq_token;
+      ty = box_map (type_map h) x.ty;
+      semi_token = x.semi_token;
+      where_clause_placement = x.where_clause_placement;
+    }
 
 abbrev pub item_union_map : {A B : Type 0} → (A → B) → ItemUnion A → ItemUnion B
 item_union_map h x =
-    record { attrs = vec_map (attribute_map h) x.attrs; vis = visibility_map h x.vis; union_token = x.union_token;
-    ident = x.ident; generics = generics_map h x.generics; fields = fields_named_map h x.fields }
+    record {
+      attrs = vec_map (attribute_map h) x.attrs;
+      vis = visibility_map h x.vis;
+      union_token = x.union_token;
+      ident = x.ident;
+      generics = generics_map h x.generics;
+      fields = fields_named_map h x.fields;
+    }
 
 abbrev pub item_use_map : {A B : Type 0} → (A → B) → ItemUse A → ItemUse B
 item_use_map h x =
-    record { attrs = vec_map (attribute_map h) x.attrs; vis = visibility_map h x.vis; use_token = x.use_token;
-    leading_colon = x.leading_colon; tree = x.tree; semi_token = x.semi_token }
+    record {
+      attrs = vec_map (attribute_map h) x.attrs;
+      vis = visibility_map h x.vis;
+      use_token = x.use_token;
+      leading_colon = x.leading_colon;
+      tree = x.tree;
+      semi_token = x.semi_token;
+    }

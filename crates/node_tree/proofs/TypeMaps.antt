@@ -88,8 +88,12 @@ generic_argument_map h x =
 abbrev pub angle_bracketed_generic_arguments_map :
     {A B : Type 0} → (A → B) → AngleBracketedGenericArguments A → AngleBracketedGenericArguments B
 angle_bracketed_generic_arguments_map h x =
-    record { colon2_token = x.colon2_token; lt_token = x.lt_token;
-    args = punctuated_map (generic_argument_map h) x.args; gt_token = x.gt_token }
+    record {
+      colon2_token = x.colon2_token;
+      lt_token = x.lt_token;
+      args = punctuated_map (generic_argument_map h) x.args;
+      gt_token = x.gt_token;
+    }
 
 abbrev pub attribute_map : {A B : Type 0} → (A → B) → Attribute A → Attribute B
 attribute_map h x =
@@ -148,23 +152,39 @@ macro_map h x =
 
 abbrev pub lifetime_param_map : {A B : Type 0} → (A → B) → LifetimeParam A → LifetimeParam B
 lifetime_param_map h x =
-    record { attrs = vec_map (attribute_map h) x.attrs; lifetime = x.lifetime; colon_token = x.colon_token;
-    bounds = x.bounds }
+    record {
+      attrs = vec_map (attribute_map h) x.attrs;
+      lifetime = x.lifetime;
+      colon_token = x.colon_token;
+      bounds = x.bounds;
+    }
 
 abbrev pub bound_lifetimes_map : {A B : Type 0} → (A → B) → BoundLifetimes A → BoundLifetimes B
 bound_lifetimes_map h x =
-    record { for_token = x.for_token; lt_token = x.lt_token;
-    lifetimes = punctuated_map (lifetime_param_map h) x.lifetimes; gt_token = x.gt_token }
+    record {
+      for_token = x.for_token;
+      lt_token = x.lt_token;
+      lifetimes = punctuated_map (lifetime_param_map h) x.lifetimes;
+      gt_token = x.gt_token;
+    }
 
 abbrev pub q_self_map : {A B : Type 0} → (A → B) → QSelf A → QSelf B
 q_self_map h x =
-    record { lt_token = x.lt_token; ty = h x.ty; position = x.position; as_token = x.as_token;
-    gt_token = x.gt_token }
+    record {
+      lt_token = x.lt_token;
+      ty = h x.ty;
+      position = x.position;
+      as_token = x.as_token;
+      gt_token = x.gt_token;
+    }
 
 abbrev pub trait_bound_map : {A B : Type 0} → (A → B) → TraitBound A → TraitBound B
 trait_bound_map h x =
-    record { modifier = x.modifier; lifetimes = option_map (bound_lifetimes_map h) x.lifetimes;
-    path = path_map h x.path }
+    record {
+      modifier = x.modifier;
+      lifetimes = option_map (bound_lifetimes_map h) x.lifetimes;
+      path = path_map h x.path;
+    }
 
 abbrev pub TypeParamBoundCases : Type 0 → Type 0
 TypeParamBoundCases A = (TraitBound A × Unit {0}) ⊎ ((Lifetime × Unit {0}) ⊎ ⊥)
@@ -210,17 +230,27 @@ meta_map h x =
 
 abbrev pub type_array_map : {A B : Type 0} → (A → B) → TypeArray A → TypeArray B
 type_array_map h x =
-    record { bracket_token = x.bracket_token; elem = h x.elem; semi_token = x.semi_token;
-    len = h x.len }
+    record {
+      bracket_token = x.bracket_token;
+      elem = h x.elem;
+      semi_token = x.semi_token;
+      len = h x.len;
+    }
 
 abbrev pub fn_ptr_arg_map : {A B : Type 0} → (A → B) → FnPtrArg A → FnPtrArg B
 fn_ptr_arg_map h x = record { attrs = vec_map (attribute_map h) x.attrs; name = x.name; ty = h x.ty }
 
 abbrev pub type_fn_ptr_map : {A B : Type 0} → (A → B) → TypeFnPtr A → TypeFnPtr B
 type_fn_ptr_map h x =
-    record { lifetimes = option_map (bound_lifetimes_map h) x.lifetimes; unsafety = x.unsafety; abi = x.abi;
-    fn_token = x.fn_token; paren_token = x.paren_token; inputs = punctuated_map (fn_ptr_arg_map h) x.inputs;
-    output = return_type_map h x.output }
+    record {
+      lifetimes = option_map (bound_lifetimes_map h) x.lifetimes;
+      unsafety = x.unsafety;
+      abi = x.abi;
+      fn_token = x.fn_token;
+      paren_token = x.paren_token;
+      inputs = punctuated_map (fn_ptr_arg_map h) x.inputs;
+      output = return_type_map h x.output;
+    }
 
 abbrev pub type_impl_trait_map : {A B : Type 0} → (A → B) → TypeImplTrait A → TypeImplTrait B
 type_impl_trait_map h x =
@@ -295,13 +325,24 @@ type_map h x =
 
 abbrev pub const_param_map : {A B : Type 0} → (A → B) → ConstParam A → ConstParam B
 const_param_map h x =
-    record { attrs = vec_map (attribute_map h) x.attrs; const_token = x.const_token; ident = x.ident;
-    colon_token = x.colon_token; ty = h x.ty; eq_token = x.eq_token; default = option_map h x.default }
+    record {
+      attrs = vec_map (attribute_map h) x.attrs;
+      const_token = x.const_token;
+      ident = x.ident;
+      colon_token = x.colon_token;
+      ty = h x.ty;
+      eq_token = x.eq_token;
+      default = option_map h x.default;
+    }
 
 abbrev pub vis_restricted_map : {A B : Type 0} → (A → B) → VisRestricted A → VisRestricted B
 vis_restricted_map h x =
-    record { pub_token = x.pub_token; paren_token = x.paren_token; in_token = x.in_token;
-    path = box_map (path_map h) x.path }
+    record {
+      pub_token = x.pub_token;
+      paren_token = x.paren_token;
+      in_token = x.in_token;
+      path = box_map (path_map h) x.path;
+    }
 
 abbrev pub VisibilityCases : Type 0 → Type 0
 VisibilityCases A = (Keyword 31 × Unit {0}) ⊎ ((VisRestricted A × Unit {0}) ⊎ (Unit {0} ⊎ ⊥))
@@ -324,9 +365,14 @@ visibility_map h x =
 
 abbrev pub type_param_map : {A B : Type 0} → (A → B) → TypeParam A → TypeParam B
 type_param_map h x =
-    record { attrs = vec_map (attribute_map h) x.attrs; ident = x.ident; colon_token = x.colon_token;
-    bounds = punctuated_map (type_param_bound_map h) x.bounds; eq_token = x.eq_token;
-    default = option_map h x.default }
+    record {
+      attrs = vec_map (attribute_map h) x.attrs;
+      ident = x.ident;
+      colon_token = x.colon_token;
+      bounds = punctuated_map (type_param_bound_map h) x.bounds;
+      eq_token = x.eq_token;
+      default = option_map h x.default;
+    }
 
 abbrev pub GenericParamCases : Type 0 → Type 0
 GenericParamCases A = (LifetimeParam A × Unit {0}) ⊎ ((TypeParam A × Unit {0}) ⊎ ((ConstParam A × Unit {0}) ⊎ ⊥))
@@ -349,8 +395,12 @@ generic_param_map h x =
 
 abbrev pub predicate_type_map : {A B : Type 0} → (A → B) → PredicateType A → PredicateType B
 predicate_type_map h x =
-    record { lifetimes = option_map (bound_lifetimes_map h) x.lifetimes; bounded_ty = h x.bounded_ty;
-    colon_token = x.colon_token; bounds = punctuated_map (type_param_bound_map h) x.bounds }
+    record {
+      lifetimes = option_map (bound_lifetimes_map h) x.lifetimes;
+      bounded_ty = h x.bounded_ty;
+      colon_token = x.colon_token;
+      bounds = punctuated_map (type_param_bound_map h) x.bounds;
+    }
 
 abbrev pub WherePredicateCases : Type 0 → Type 0
 WherePredicateCases A = (PredicateLifetime × Unit {0}) ⊎ ((PredicateType A × Unit {0}) ⊎ ⊥)
@@ -375,5 +425,9 @@ where_clause_map h x =
 
 abbrev pub generics_map : {A B : Type 0} → (A → B) → Generics A → Generics B
 generics_map h x =
-    record { lt_token = x.lt_token; params = punctuated_map (generic_param_map h) x.params; gt_token = x.gt_token;
-    where_clause = option_map (where_clause_map h) x.where_clause }
+    record {
+      lt_token = x.lt_token;
+      params = punctuated_map (generic_param_map h) x.params;
+      gt_token = x.gt_token;
+      where_clause = option_map (where_clause_map h) x.where_clause;
+    }

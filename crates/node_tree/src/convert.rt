@@ -160,11 +160,13 @@ impl From<DeriveInput<Node>> for Item {
             data,
         } = input;
         match data {
-            Data::Struct(DataStruct {
-                struct_token,
-                fields,
-                semi_token,
-            }) => Item::Struct(ItemStruct {
+            Data::Struct(
+                DataStruct {
+                    struct_token,
+                    fields,
+                    semi_token,
+                },
+            ) => Item::Struct(ItemStruct {
                 attrs,
                 vis,
                 struct_token,
@@ -173,11 +175,13 @@ impl From<DeriveInput<Node>> for Item {
                 fields,
                 semi_token,
             }),
-            Data::Enum(DataEnum {
-                enum_token,
-                brace_token,
-                variants,
-            }) => Item::Enum(ItemEnum {
+            Data::Enum(
+                DataEnum {
+                    enum_token,
+                    brace_token,
+                    variants,
+                },
+            ) => Item::Enum(ItemEnum {
                 attrs,
                 vis,
                 enum_token,
@@ -186,10 +190,12 @@ impl From<DeriveInput<Node>> for Item {
                 brace_token,
                 variants,
             }),
-            Data::Union(DataUnion {
-                union_token,
-                fields,
-            }) => Item::Union(ItemUnion {
+            Data::Union(
+                DataUnion {
+                    union_token,
+                    fields,
+                },
+            ) => Item::Union(ItemUnion {
                 attrs,
                 vis,
                 union_token,

@@ -1,141 +1,34 @@
-//! The node that a tree is, and the item and the file.
+//! What is made of a tree.
 
-ghost use Rattle.node_from.specs.Whats.{IsWhat, made};
-ghost use Rattle.node_from_bodies.specs.StatementParts.{a_statement};
-ghost use Rattle.node_shapes.specs.Shape.{IsShaped};
-ghost use Rattle.node_tree.specs.Views.{item_view, node_view};
-ghost use Rattle.node_tree.specs.Wholes.{file_view};
-ghost use Rattle.node_views.specs.Patterns as patterns;
-ghost use Rattle.node_views.specs.Statements as statements;
+ghost use Rattle.node_reads.specs.Nests.{IsMade, IsWanted};
+ghost use Rattle.node_tree.specs.Views.{node_view};
 ghost use Rattle.reader_tree.specs.Size.{node_count};
-ghost use Rattle.std.specs.Prelude.{◌≡◌, IfOk};
-ghost use Rattle.syn_grammar.specs.Gram as g;
+ghost use Rattle.std.specs.Prelude.{IfOk};
 ghost use Rattle.syn_grammar.specs.Kept.{kept};
-ghost use Rattle.syn_grammar.specs.Kind as k;
 
-use crate::file::File;
-use crate::item::Item;
 use crate::node::Node;
-use node_expressions::statement::Stmt;
-use node_from::What;
-use node_from_items::files::file_parts;
-use node_from_items::item as from_items;
-use node_paths::attribute::Attribute;
 use node_reads::below::Below;
-use node_reads::by::{node_by, pattern_by, statement_by};
+use node_reads::by::make_by;
+use node_reads::wanted::{Made, Wanted};
 use reader_tree::tree::Tree;
 use std::alloc::{AllocError, Global};
 use std::marker::PhantomData;
 
-/// The node that a tree is.
+/// A node, a pattern or a statement of a tree.
 ///
 /// # Errors
 ///
 /// Where there is no memory for it.
 #[cycle(making)]
-pub fn node(alloc: Global, what: What, tree: &Tree<'_>) -> Result<Node, AllocError>
-    requires { IsWhat what tree.now }
-    ensures { IfOk result (λ x. node_view x ≡ made what (kept tree.now)) }
+pub fn make(alloc: Global, wanted: Wanted<Node>, tree: &Tree<'_>) -> Result<Made<Node>, AllocError>
+    requires { IsWanted wanted tree.now }
+    ensures { IfOk result (λ x. IsMade node_view wanted x (kept tree.now)) }
 {
     let below = Below {
         above: tree,
         alloc,
-        node,
-        pattern: attributed_pattern,
-        statement,
+        make,
         nodes: PhantomData,
     };
-    node_by::<Node, Item, _>(&below, what, tree)
-}
-
-/// The pattern that a tree is, with attributes in front of it.
-///
-/// # Errors
-///
-/// Where there is no memory for it.
-#[cycle(making)]
-pub fn attributed_pattern(
-    alloc: Global,
-    attrs: Vec<Attribute<Node>>,
-    tree: &Tree<'_>,
-) -> Result<Node, AllocError>
-    requires { IsShaped tree.now (g.ref k.OnePattern) }
-    ensures { IfOk result (λ x. node_view x ≡ patterns.behind_attributes node_view attrs.items (kept tree.now)) }
-{
-    let below = Below {
-        above: tree,
-        alloc,
-        node,
-        pattern: attributed_pattern,
-        statement,
-        nodes: PhantomData,
-    };
-    pattern_by::<Node, Item, _>(&below, attrs, tree)
-}
-
-/// The statement that a tree is, among others; a lone `;` is one too.
-///
-/// # Errors
-///
-/// Where there is no memory for it.
-#[cycle(making)]
-pub fn statement(alloc: Global, tree: &Tree<'_>) -> Result<Stmt<Node>, AllocError>
-    requires { IsShaped tree.now a_statement }
-    ensures { IfOk result (λ x. statements.block_stmt node_view x ≡ kept tree.now) }
-{
-    let below = Below {
-        above: tree,
-        alloc,
-        node,
-        pattern: attributed_pattern,
-        statement,
-        nodes: PhantomData,
-    };
-    statement_by::<Node, Item, _>(&below, tree)
-}
-
-/// The item that a tree is.
-///
-/// # Errors
-///
-/// Where there is no memory for it.
-pub fn item(alloc: Global, tree: &Tree<'_>) -> Result<Item, AllocError>
-    requires { IsShaped tree.now (g.ref k.AnItem) }
-    ensures { IfOk result (λ x. item_view x ≡ kept tree.now) }
-{
-    let below = Below {
-        above: tree,
-        alloc,
-        node,
-        pattern: attributed_pattern,
-        statement,
-        nodes: PhantomData,
-    };
-    from_items::item(&below, tree)
-}
-
-/// The file that a tree is. It has no first line `#!`.
-///
-/// # Errors
-///
-/// Where there is no memory for it.
-pub fn file(alloc: Global, tree: &Tree<'_>) -> Result<File, AllocError>
-    requires { IsShaped tree.now (g.ref k.AFile) }
-    ensures { IfOk result (λ x. file_view x ≡ kept tree.now) }
-{
-    let below = Below {
-        above: tree,
-        alloc,
-        node,
-        pattern: attributed_pattern,
-        statement,
-        nodes: PhantomData,
-    };
-    let (attrs, items) = file_parts(&below, tree)?;
-    Ok(File {
-        shebang: None,
-        frontmatter: None,
-        attrs,
-        items,
-    })
+    make_by::<Node, _>(&below, wanted, tree)
 }

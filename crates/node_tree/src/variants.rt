@@ -9,16 +9,26 @@ use node_items::{
     ItemConst, ItemEnum, ItemExternCrate, ItemFn, ItemForeignMod, ItemImpl, ItemMacro, ItemMod,
     ItemStatic, ItemStruct, ItemTrait, ItemTraitAlias, ItemType, ItemUnion, ItemUse,
 };
+use node_traits::Variant;
 
 impl TryFrom<Item> for ItemConst<Node> {
     type Error = Item;
 
     ghost try_from_gives = { TakesOut items.Const };
 
-    /// Takes a constant out of the item. The error is any other item, as it is.
-    fn try_from(item: Item) -> Result<ItemConst<Node>, Item> {
-        item.into_const()
+    /// Takes it out of that variant, and hands any other one back.
+    fn try_from(whole: Item) -> Result<ItemConst<Node>, Item> {
+        match whole {
+            Item::Const(form) => Ok(form),
+            other => Err(other),
+        }
     }
+}
+
+impl Variant<Item> for ItemConst<Node> {
+    ghost variant = { items.Const };
+
+    ghost takes_out = { λ _ _ given. given };
 }
 
 impl TryFrom<Item> for ItemEnum<Node> {
@@ -26,10 +36,19 @@ impl TryFrom<Item> for ItemEnum<Node> {
 
     ghost try_from_gives = { TakesOut items.Enum };
 
-    /// Takes an enum out of the item. The error is any other item, as it is.
-    fn try_from(item: Item) -> Result<ItemEnum<Node>, Item> {
-        item.into_enum()
+    /// Takes it out of that variant, and hands any other one back.
+    fn try_from(whole: Item) -> Result<ItemEnum<Node>, Item> {
+        match whole {
+            Item::Enum(form) => Ok(form),
+            other => Err(other),
+        }
     }
+}
+
+impl Variant<Item> for ItemEnum<Node> {
+    ghost variant = { items.Enum };
+
+    ghost takes_out = { λ _ _ given. given };
 }
 
 impl TryFrom<Item> for ItemExternCrate<Node> {
@@ -37,10 +56,19 @@ impl TryFrom<Item> for ItemExternCrate<Node> {
 
     ghost try_from_gives = { TakesOut items.ExternCrate };
 
-    /// Takes a crate by its name out of the item. The error is any other item, as it is.
-    fn try_from(item: Item) -> Result<ItemExternCrate<Node>, Item> {
-        item.into_extern_crate()
+    /// Takes it out of that variant, and hands any other one back.
+    fn try_from(whole: Item) -> Result<ItemExternCrate<Node>, Item> {
+        match whole {
+            Item::ExternCrate(form) => Ok(form),
+            other => Err(other),
+        }
     }
+}
+
+impl Variant<Item> for ItemExternCrate<Node> {
+    ghost variant = { items.ExternCrate };
+
+    ghost takes_out = { λ _ _ given. given };
 }
 
 impl TryFrom<Item> for ItemFn<Node> {
@@ -48,10 +76,19 @@ impl TryFrom<Item> for ItemFn<Node> {
 
     ghost try_from_gives = { TakesOut items.Fn };
 
-    /// Takes a function out of the item. The error is any other item, as it is.
-    fn try_from(item: Item) -> Result<ItemFn<Node>, Item> {
-        item.into_fn()
+    /// Takes it out of that variant, and hands any other one back.
+    fn try_from(whole: Item) -> Result<ItemFn<Node>, Item> {
+        match whole {
+            Item::Fn(form) => Ok(form),
+            other => Err(other),
+        }
     }
+}
+
+impl Variant<Item> for ItemFn<Node> {
+    ghost variant = { items.Fn };
+
+    ghost takes_out = { λ _ _ given. given };
 }
 
 impl TryFrom<Item> for ItemForeignMod<Node> {
@@ -59,10 +96,19 @@ impl TryFrom<Item> for ItemForeignMod<Node> {
 
     ghost try_from_gives = { TakesOut items.ForeignMod };
 
-    /// Takes items of another language out of the item. The error is any other item, as it is.
-    fn try_from(item: Item) -> Result<ItemForeignMod<Node>, Item> {
-        item.into_foreign_mod()
+    /// Takes it out of that variant, and hands any other one back.
+    fn try_from(whole: Item) -> Result<ItemForeignMod<Node>, Item> {
+        match whole {
+            Item::ForeignMod(form) => Ok(form),
+            other => Err(other),
+        }
     }
+}
+
+impl Variant<Item> for ItemForeignMod<Node> {
+    ghost variant = { items.ForeignMod };
+
+    ghost takes_out = { λ _ _ given. given };
 }
 
 impl TryFrom<Item> for ItemImpl<Node> {
@@ -70,10 +116,19 @@ impl TryFrom<Item> for ItemImpl<Node> {
 
     ghost try_from_gives = { TakesOut items.Impl };
 
-    /// Takes an impl out of the item. The error is any other item, as it is.
-    fn try_from(item: Item) -> Result<ItemImpl<Node>, Item> {
-        item.into_impl()
+    /// Takes it out of that variant, and hands any other one back.
+    fn try_from(whole: Item) -> Result<ItemImpl<Node>, Item> {
+        match whole {
+            Item::Impl(form) => Ok(form),
+            other => Err(other),
+        }
     }
+}
+
+impl Variant<Item> for ItemImpl<Node> {
+    ghost variant = { items.Impl };
+
+    ghost takes_out = { λ _ _ given. given };
 }
 
 impl TryFrom<Item> for ItemMacro<Node> {
@@ -81,10 +136,19 @@ impl TryFrom<Item> for ItemMacro<Node> {
 
     ghost try_from_gives = { TakesOut items.Macro };
 
-    /// Takes a call of a macro out of the item. The error is any other item, as it is.
-    fn try_from(item: Item) -> Result<ItemMacro<Node>, Item> {
-        item.into_macro()
+    /// Takes it out of that variant, and hands any other one back.
+    fn try_from(whole: Item) -> Result<ItemMacro<Node>, Item> {
+        match whole {
+            Item::Macro(form) => Ok(form),
+            other => Err(other),
+        }
     }
+}
+
+impl Variant<Item> for ItemMacro<Node> {
+    ghost variant = { items.Macro };
+
+    ghost takes_out = { λ _ _ given. given };
 }
 
 impl TryFrom<Item> for ItemMod<Node> {
@@ -92,10 +156,19 @@ impl TryFrom<Item> for ItemMod<Node> {
 
     ghost try_from_gives = { TakesOut items.Mod };
 
-    /// Takes a module out of the item. The error is any other item, as it is.
-    fn try_from(item: Item) -> Result<ItemMod<Node>, Item> {
-        item.into_mod()
+    /// Takes it out of that variant, and hands any other one back.
+    fn try_from(whole: Item) -> Result<ItemMod<Node>, Item> {
+        match whole {
+            Item::Mod(form) => Ok(form),
+            other => Err(other),
+        }
     }
+}
+
+impl Variant<Item> for ItemMod<Node> {
+    ghost variant = { items.Mod };
+
+    ghost takes_out = { λ _ _ given. given };
 }
 
 impl TryFrom<Item> for ItemStatic<Node> {
@@ -103,10 +176,19 @@ impl TryFrom<Item> for ItemStatic<Node> {
 
     ghost try_from_gives = { TakesOut items.Static };
 
-    /// Takes a static out of the item. The error is any other item, as it is.
-    fn try_from(item: Item) -> Result<ItemStatic<Node>, Item> {
-        item.into_static()
+    /// Takes it out of that variant, and hands any other one back.
+    fn try_from(whole: Item) -> Result<ItemStatic<Node>, Item> {
+        match whole {
+            Item::Static(form) => Ok(form),
+            other => Err(other),
+        }
     }
+}
+
+impl Variant<Item> for ItemStatic<Node> {
+    ghost variant = { items.Static };
+
+    ghost takes_out = { λ _ _ given. given };
 }
 
 impl TryFrom<Item> for ItemStruct<Node> {
@@ -114,10 +196,19 @@ impl TryFrom<Item> for ItemStruct<Node> {
 
     ghost try_from_gives = { TakesOut items.Struct };
 
-    /// Takes a struct out of the item. The error is any other item, as it is.
-    fn try_from(item: Item) -> Result<ItemStruct<Node>, Item> {
-        item.into_struct()
+    /// Takes it out of that variant, and hands any other one back.
+    fn try_from(whole: Item) -> Result<ItemStruct<Node>, Item> {
+        match whole {
+            Item::Struct(form) => Ok(form),
+            other => Err(other),
+        }
     }
+}
+
+impl Variant<Item> for ItemStruct<Node> {
+    ghost variant = { items.Struct };
+
+    ghost takes_out = { λ _ _ given. given };
 }
 
 impl TryFrom<Item> for ItemTrait<Node> {
@@ -125,10 +216,19 @@ impl TryFrom<Item> for ItemTrait<Node> {
 
     ghost try_from_gives = { TakesOut items.Trait };
 
-    /// Takes a trait out of the item. The error is any other item, as it is.
-    fn try_from(item: Item) -> Result<ItemTrait<Node>, Item> {
-        item.into_trait()
+    /// Takes it out of that variant, and hands any other one back.
+    fn try_from(whole: Item) -> Result<ItemTrait<Node>, Item> {
+        match whole {
+            Item::Trait(form) => Ok(form),
+            other => Err(other),
+        }
     }
+}
+
+impl Variant<Item> for ItemTrait<Node> {
+    ghost variant = { items.Trait };
+
+    ghost takes_out = { λ _ _ given. given };
 }
 
 impl TryFrom<Item> for ItemTraitAlias<Node> {
@@ -136,10 +236,19 @@ impl TryFrom<Item> for ItemTraitAlias<Node> {
 
     ghost try_from_gives = { TakesOut items.TraitAlias };
 
-    /// Takes bounds with a name out of the item. The error is any other item, as it is.
-    fn try_from(item: Item) -> Result<ItemTraitAlias<Node>, Item> {
-        item.into_trait_alias()
+    /// Takes it out of that variant, and hands any other one back.
+    fn try_from(whole: Item) -> Result<ItemTraitAlias<Node>, Item> {
+        match whole {
+            Item::TraitAlias(form) => Ok(form),
+            other => Err(other),
+        }
     }
+}
+
+impl Variant<Item> for ItemTraitAlias<Node> {
+    ghost variant = { items.TraitAlias };
+
+    ghost takes_out = { λ _ _ given. given };
 }
 
 impl TryFrom<Item> for ItemType<Node> {
@@ -147,10 +256,19 @@ impl TryFrom<Item> for ItemType<Node> {
 
     ghost try_from_gives = { TakesOut items.«Type» };
 
-    /// Takes a type with another name out of the item. The error is any other item, as it is.
-    fn try_from(item: Item) -> Result<ItemType<Node>, Item> {
-        item.into_type()
+    /// Takes it out of that variant, and hands any other one back.
+    fn try_from(whole: Item) -> Result<ItemType<Node>, Item> {
+        match whole {
+            Item::Type(form) => Ok(form),
+            other => Err(other),
+        }
     }
+}
+
+impl Variant<Item> for ItemType<Node> {
+    ghost variant = { items.«Type» };
+
+    ghost takes_out = { λ _ _ given. given };
 }
 
 impl TryFrom<Item> for ItemUnion<Node> {
@@ -158,10 +276,19 @@ impl TryFrom<Item> for ItemUnion<Node> {
 
     ghost try_from_gives = { TakesOut items.Union };
 
-    /// Takes a union out of the item. The error is any other item, as it is.
-    fn try_from(item: Item) -> Result<ItemUnion<Node>, Item> {
-        item.into_union()
+    /// Takes it out of that variant, and hands any other one back.
+    fn try_from(whole: Item) -> Result<ItemUnion<Node>, Item> {
+        match whole {
+            Item::Union(form) => Ok(form),
+            other => Err(other),
+        }
     }
+}
+
+impl Variant<Item> for ItemUnion<Node> {
+    ghost variant = { items.Union };
+
+    ghost takes_out = { λ _ _ given. given };
 }
 
 impl TryFrom<Item> for ItemUse<Node> {
@@ -169,8 +296,17 @@ impl TryFrom<Item> for ItemUse<Node> {
 
     ghost try_from_gives = { TakesOut items.Use };
 
-    /// Takes an import out of the item. The error is any other item, as it is.
-    fn try_from(item: Item) -> Result<ItemUse<Node>, Item> {
-        item.into_use()
+    /// Takes it out of that variant, and hands any other one back.
+    fn try_from(whole: Item) -> Result<ItemUse<Node>, Item> {
+        match whole {
+            Item::Use(form) => Ok(form),
+            other => Err(other),
+        }
     }
+}
+
+impl Variant<Item> for ItemUse<Node> {
+    ghost variant = { items.Use };
+
+    ghost takes_out = { λ _ _ given. given };
 }

@@ -15,8 +15,8 @@ pub fn let_go_item(_: Item) {}
 
 /// Whether its left operand is a literal.
 pub fn left_is_literal(x: &Node) -> bool {
-    if let Node::Expr(Expr::Binary(binary)) = x {
-        if let Node::Expr(Expr::Lit(_)) = &*binary.left {
+    if let Some(Expr::Binary(binary)) = x.as_expr() {
+        if let Some(Expr::Lit(_)) = binary.left.as_expr() {
             return true;
         }
     }
@@ -25,8 +25,10 @@ pub fn left_is_literal(x: &Node) -> bool {
 
 /// Puts another operand at the left.
 pub fn put_left(x: &mut Node, value: Node) {
-    if let Node::Expr(Expr::Binary(binary)) = x {
-        *binary.left = value;
+    if let Node::Expr(expr) = x {
+        if let Expr::Binary(binary) = &mut **expr {
+            binary.left = value;
+        }
     }
 }
 
