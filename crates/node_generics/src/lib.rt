@@ -28,7 +28,7 @@ use syn_lists::Punctuated;
 pub use visibility::{VisRestricted, Visibility};
 
 /// The parameters of an item, and the conditions on them: `<'a, T: Clone>` and `where T: 'a`.
-#[derive(Drop)]
+#[derive(Drop, PartialEq, Eq)]
 pub struct Generics<E> {
     /// `<`, if it is there.
     pub lt_token: Option<token::Lt>,

@@ -4,6 +4,7 @@
 //! It stands for what an attribute holds, too, so that the many attributes of a tree stay small.
 //!
 //! - `convert` (private): structs as the enums that hold them.
+//! - `copies` (private): copies of all these.
 //! - `attribute`: attributes and what they hold.
 //! - `mac`: calls of macros.
 //! - `path`: paths, their segments and arguments.
@@ -15,6 +16,7 @@
 pub mod attribute;
 pub mod bound;
 mod convert;
+mod copies;
 pub mod mac;
 mod parse;
 pub mod path;

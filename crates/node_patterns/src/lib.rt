@@ -20,7 +20,7 @@ pub use kinds::{
 };
 
 /// A pattern.
-#[derive(Drop)]
+#[derive(Drop, PartialEq, Eq)]
 pub enum Pat<E> {
     /// A name that is bound: `ref mut x @ 1..=5`.
     Ident(PatIdent<E>),

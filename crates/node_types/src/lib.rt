@@ -3,6 +3,7 @@
 //! A type or an expression inside a type is an `E`, which holds it.
 //!
 //! - `convert` (private): structs as the enums that hold them.
+//! - `copies` (private): copies of all these.
 //! - `kinds`: each kind of type.
 //! - `function`: function pointers.
 //! - `parse` (private): types that are read from a stream.
@@ -10,6 +11,7 @@
 #![tactic(auto)]
 
 mod convert;
+mod copies;
 pub mod function;
 pub mod kinds;
 mod parse;
@@ -22,7 +24,7 @@ pub use kinds::{
 };
 
 /// A type.
-#[derive(Drop)]
+#[derive(Drop, PartialEq, Eq)]
 pub enum Type<E> {
     /// An array: `[T; 4]`.
     Array(TypeArray<E>),
