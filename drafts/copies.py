@@ -23,6 +23,17 @@ HOMES = {
     'LitStr': 'syn_leaf::lit', 'Member': 'syn_leaf::member', 'Index': 'syn_leaf::member',
     'BinOp': 'syn_leaf::operators', 'UnOp': 'syn_leaf::operators', 'RangeLimits': 'syn_leaf::operators',
 }
+# crates whose copies stand in several modules: of each the modules of the types
+PARTS = {
+    'node_expressions': {
+        'copies_blocks': ['block', 'branch', 'closure', 'jump', 'statement'],
+        'copies_forms': ['expr'],
+    },
+    'node_items': {
+        'copies_data': ['alias', 'data', 'derive', 'value'],
+        'copies_members': ['implement', 'module', 'traits'],
+    },
+}
 BUILT_IN = {'Vec', 'Option', 'Box', 'String', 'bool', 'usize', 'E'}
 
 
@@ -143,22 +154,48 @@ def antt_field(name):
     return '«data»' if name == 'data' else name
 
 
+def ways(count):
+    """Of each of so many cases of a sum the way to it. A long sum is cut in halves, so that no way is long."""
+    if count == 1:
+        return ['']
+    first = count // 2 if count > 12 or count in LONG else 1
+    if count > 12:
+        LONG.update(range(2, count))
+    return [f'l{way}' for way in ways(first)] + [f'r{way}' for way in ways(count - first)]
+
+
+LONG = set()
+
+
+def sum_of(cases, paths):
+    """The sum of cases, as parts that are written one behind the other."""
+    if len(cases) == 1:
+        return cases
+    left = [at for at, path in enumerate(paths) if path[0] == 'l']
+    first = sum_of(cases[:len(left)], [path[1:] for path in paths[:len(left)]])
+    second = sum_of(cases[len(left):], [path[1:] for path in paths[len(left):]])
+    if len(first) > 1:
+        first = [f'({first[0]}', *first[1:-1], f'{first[-1]})']
+    if len(second) > 1:
+        second = [f'({second[0]}', *second[1:-1], f'{second[-1]})']
+    return first + [f'⊎ {second[0]}', *second[1:]]
+
+
 def shown_enum(it, alias):
     sums = []
     for name, tys in it.variants:
         inside = ' × '.join(product(tys)) or 'Unit {0}'
         sums.append(f'({inside})' if len(tys) > 1 else inside)
-    last = len(sums) - 1
-    parts = [f'⊎ ({part}' if 0 < at < last else f'⊎ {part}' if at else part for at, part in enumerate(sums)]
-    first = wrapped('ghost Shown = { ', parts, ')' * max(0, last - 1) + ' };', '')
+    LONG.clear()
+    paths = ways(len(sums))
+    first = wrapped('ghost Shown = { ', sum_of(sums, paths), ' };', '')
     lines = ['    ghost shown = { elim [']
-    for at, (name, tys) in enumerate(it.variants):
+    for path, (name, tys) in zip(paths, it.variants):
         letters = [chr(ord('a') + k) for k in range(len(tys))]
         shows = [f"{member(ty, 'shown')} {letter}" for ty, letter in zip(tys, letters)]
         value = 'tt' if not shows else f"({', '.join(shows)})"
-        value = f'inr {value}' if at == last and last else f'inl {value}' if last else value
-        for _ in range(at - (at == last)):
-            value = f'inr ({value})'
+        for at, side in enumerate(reversed(path)):
+            value = f'in{side} {value}' if at == 0 else f'in{side} ({value})'
         head = ' '.join([f'{alias}.{antt(name)}', *letters])
         line = f'        | {head} ↦ {value}'
         if len(line) > 118:
@@ -266,11 +303,15 @@ def main(crates):
     copies = COPY | {it.name for it in every if it.is_copy}
     for crate in crates:
         its = [it for it in every if it.crate == crate]
-        text = '\n'.join(impl_of(it, copies) for it in its)
-        head = '//! Copies. Each shows what was copied, spans included.\n\n'
-        with open(f'{TOP}/crates/{crate}/src/copies.rt', 'w', encoding='utf8') as file:
-            file.write(head + uses(crate, its, every, text) + '\n\n' + text)
-        print(crate, len(its), 'types')
+        parts = PARTS.get(crate, {})
+        apart = {module for modules in parts.values() for module in modules}
+        for name, modules in [('copies', None), *parts.items()]:
+            some = [it for it in its if (it.module not in apart if modules is None else it.module in modules)]
+            text = '\n'.join(impl_of(it, copies) for it in some)
+            head = '//! Copies. Each shows what was copied, spans included.\n\n'
+            with open(f'{TOP}/crates/{crate}/src/{name}.rt', 'w', encoding='utf8') as file:
+                file.write(head + uses(crate, some, every, text) + '\n\n' + text)
+            print(crate, name, len(some), 'types')
 
 
 if __name__ == '__main__':

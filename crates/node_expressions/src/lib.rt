@@ -10,6 +10,7 @@
 //! - `branch`: expressions that choose.
 //! - `closure`: closures.
 //! - `convert` (private): structs as the enum that holds them.
+//! - `copies`, `copies_blocks`, `copies_forms` (private): copies of all these.
 //! - `expr`: expressions, each of one form.
 //! - `jump`: expressions that leave what runs.
 //! - `parse` (private): expressions, statements and what stands in them, read from a stream.
@@ -25,6 +26,9 @@ pub mod branch;
 pub mod call;
 pub mod closure;
 mod convert;
+mod copies;
+mod copies_blocks;
+mod copies_forms;
 pub mod expr;
 pub mod jump;
 pub mod operator;

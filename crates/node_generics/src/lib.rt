@@ -3,6 +3,7 @@
 //! A type or an expression in them is an `E`, which holds it.
 //!
 //! - `convert` (private): structs as the enums that hold them.
+//! - `copies` (private): copies of all these.
 //! - `param`: the parameters.
 //! - `clause`: the conditions behind `where`.
 //! - `parse` (private): all these, read from a stream.
@@ -15,6 +16,7 @@ ghost use Rattle.syn_lists.specs.Lists.{separators, values};
 
 pub mod clause;
 mod convert;
+mod copies;
 pub mod param;
 mod parse;
 mod to_tokens;

@@ -9,9 +9,14 @@ ghost use Rattle.std.proofs.Common.{inl, inr};
 ghost use Rattle.std.specs.Prelude.{◌≡◌, ◌⊎◌, Ok};
 
 use crate::attribute::{AttrStyle, Attribute, Meta, MetaList, MetaNameValue};
-use crate::bound::{Abi, BoundLifetimes, LifetimeParam, TraitBound, TraitBoundModifier, TypeParamBound};
+use crate::bound::{
+    Abi, BoundLifetimes, LifetimeParam, TraitBound, TraitBoundModifier, TypeParamBound,
+};
 use crate::mac::{Macro, MacroDelimiter};
-use crate::path::{AngleBracketedGenericArguments, AssocType, GenericArgument, ParenthesizedGenericArguments, Path, PathArguments, PathSegment, QSelf, ReturnType};
+use crate::path::{
+    AngleBracketedGenericArguments, AssocType, GenericArgument, ParenthesizedGenericArguments,
+    Path, PathArguments, PathSegment, QSelf, ReturnType,
+};
 use proc_macro2::tree::TokenStream;
 use rust_leaf::ident::Ident;
 use std::alloc::AllocError;
@@ -39,8 +44,12 @@ impl<E: TryClone> TryClone for Attribute<E> {
     ghost Shown = { ⟦<token::Pound as TryClone>⟧.Shown × ⟦<AttrStyle as TryClone>⟧.Shown
         × ⟦<token::Bracket as TryClone>⟧.Shown × E.Shown };
 
-    ghost shown = { λ x. (⟦<token::Pound as TryClone>⟧.shown x.pound_token, ⟦<AttrStyle as TryClone>⟧.shown x.style,
-        ⟦<token::Bracket as TryClone>⟧.shown x.bracket_token, E.shown x.meta) };
+    ghost shown = { λ x. (
+      ⟦<token::Pound as TryClone>⟧.shown x.pound_token,
+      ⟦<AttrStyle as TryClone>⟧.shown x.style,
+      ⟦<token::Bracket as TryClone>⟧.shown x.bracket_token,
+      E.shown x.meta,
+    ) };
 
     fn try_clone(&self) -> Result<Attribute<E>, AllocError> {
         Ok(Attribute {
@@ -57,9 +66,9 @@ impl<E: TryClone> TryClone for Meta<E> {
         ⊎ ⟦<MetaNameValue<E> as TryClone>⟧.Shown) };
 
     ghost shown = { elim [
-        | meta_forms.Path a ↦ inl (⟦<Path<E> as TryClone>⟧.shown a)
-        | meta_forms.List a ↦ inr (inl (⟦<MetaList<E> as TryClone>⟧.shown a))
-        | meta_forms.NameValue a ↦ inr (inr (⟦<MetaNameValue<E> as TryClone>⟧.shown a))
+      | meta_forms.Path a ↦ inl (⟦<Path<E> as TryClone>⟧.shown a)
+      | meta_forms.List a ↦ inr (inl (⟦<MetaList<E> as TryClone>⟧.shown a))
+      | meta_forms.NameValue a ↦ inr (inr (⟦<MetaNameValue<E> as TryClone>⟧.shown a))
     ] };
 
     fn try_clone(&self) -> Result<Meta<E>, AllocError> {
@@ -75,8 +84,11 @@ impl<E: TryClone> TryClone for MetaList<E> {
     ghost Shown = { ⟦<Path<E> as TryClone>⟧.Shown × ⟦<MacroDelimiter as TryClone>⟧.Shown
         × ⟦<TokenStream as TryClone>⟧.Shown };
 
-    ghost shown = { λ x. (⟦<Path<E> as TryClone>⟧.shown x.path, ⟦<MacroDelimiter as TryClone>⟧.shown x.delimiter,
-        ⟦<TokenStream as TryClone>⟧.shown x.tokens) };
+    ghost shown = { λ x. (
+      ⟦<Path<E> as TryClone>⟧.shown x.path,
+      ⟦<MacroDelimiter as TryClone>⟧.shown x.delimiter,
+      ⟦<TokenStream as TryClone>⟧.shown x.tokens,
+    ) };
 
     fn try_clone(&self) -> Result<MetaList<E>, AllocError> {
         Ok(MetaList {
@@ -90,8 +102,11 @@ impl<E: TryClone> TryClone for MetaList<E> {
 impl<E: TryClone> TryClone for MetaNameValue<E> {
     ghost Shown = { ⟦<Path<E> as TryClone>⟧.Shown × ⟦<token::Eq as TryClone>⟧.Shown × E.Shown };
 
-    ghost shown = { λ x. (⟦<Path<E> as TryClone>⟧.shown x.path, ⟦<token::Eq as TryClone>⟧.shown x.eq_token,
-        E.shown x.value) };
+    ghost shown = { λ x. (
+      ⟦<Path<E> as TryClone>⟧.shown x.path,
+      ⟦<token::Eq as TryClone>⟧.shown x.eq_token,
+      E.shown x.value,
+    ) };
 
     fn try_clone(&self) -> Result<MetaNameValue<E>, AllocError> {
         Ok(MetaNameValue {
@@ -106,9 +121,12 @@ impl<E: TryClone> TryClone for LifetimeParam<E> {
     ghost Shown = { ⟦<Vec<Attribute<E>> as TryClone>⟧.Shown × ⟦<Lifetime as TryClone>⟧.Shown
         × ⟦<Option<token::Colon> as TryClone>⟧.Shown × ⟦<Punctuated<Lifetime, token::Plus> as TryClone>⟧.Shown };
 
-    ghost shown = { λ x. (⟦<Vec<Attribute<E>> as TryClone>⟧.shown x.attrs,
-        ⟦<Lifetime as TryClone>⟧.shown x.lifetime, ⟦<Option<token::Colon> as TryClone>⟧.shown x.colon_token,
-        ⟦<Punctuated<Lifetime, token::Plus> as TryClone>⟧.shown x.bounds) };
+    ghost shown = { λ x. (
+      ⟦<Vec<Attribute<E>> as TryClone>⟧.shown x.attrs,
+      ⟦<Lifetime as TryClone>⟧.shown x.lifetime,
+      ⟦<Option<token::Colon> as TryClone>⟧.shown x.colon_token,
+      ⟦<Punctuated<Lifetime, token::Plus> as TryClone>⟧.shown x.bounds,
+    ) };
 
     fn try_clone(&self) -> Result<LifetimeParam<E>, AllocError> {
         Ok(LifetimeParam {
@@ -124,9 +142,12 @@ impl<E: TryClone> TryClone for BoundLifetimes<E> {
     ghost Shown = { ⟦<token::For as TryClone>⟧.Shown × ⟦<token::Lt as TryClone>⟧.Shown
         × ⟦<Punctuated<LifetimeParam<E>, token::Comma> as TryClone>⟧.Shown × ⟦<token::Gt as TryClone>⟧.Shown };
 
-    ghost shown = { λ x. (⟦<token::For as TryClone>⟧.shown x.for_token, ⟦<token::Lt as TryClone>⟧.shown x.lt_token,
-        ⟦<Punctuated<LifetimeParam<E>, token::Comma> as TryClone>⟧.shown x.lifetimes,
-        ⟦<token::Gt as TryClone>⟧.shown x.gt_token) };
+    ghost shown = { λ x. (
+      ⟦<token::For as TryClone>⟧.shown x.for_token,
+      ⟦<token::Lt as TryClone>⟧.shown x.lt_token,
+      ⟦<Punctuated<LifetimeParam<E>, token::Comma> as TryClone>⟧.shown x.lifetimes,
+      ⟦<token::Gt as TryClone>⟧.shown x.gt_token,
+    ) };
 
     fn try_clone(&self) -> Result<BoundLifetimes<E>, AllocError> {
         Ok(BoundLifetimes {
@@ -142,8 +163,8 @@ impl<E: TryClone> TryClone for TypeParamBound<E> {
     ghost Shown = { ⟦<TraitBound<E> as TryClone>⟧.Shown ⊎ ⟦<Lifetime as TryClone>⟧.Shown };
 
     ghost shown = { elim [
-        | type_param_bound_forms.Trait a ↦ inl (⟦<TraitBound<E> as TryClone>⟧.shown a)
-        | type_param_bound_forms.Lifetime a ↦ inr (⟦<Lifetime as TryClone>⟧.shown a)
+      | type_param_bound_forms.Trait a ↦ inl (⟦<TraitBound<E> as TryClone>⟧.shown a)
+      | type_param_bound_forms.Lifetime a ↦ inr (⟦<Lifetime as TryClone>⟧.shown a)
     ] };
 
     fn try_clone(&self) -> Result<TypeParamBound<E>, AllocError> {
@@ -158,8 +179,11 @@ impl<E: TryClone> TryClone for TraitBound<E> {
     ghost Shown = { ⟦<TraitBoundModifier as TryClone>⟧.Shown × ⟦<Option<BoundLifetimes<E>> as TryClone>⟧.Shown
         × ⟦<Path<E> as TryClone>⟧.Shown };
 
-    ghost shown = { λ x. (⟦<TraitBoundModifier as TryClone>⟧.shown x.modifier,
-        ⟦<Option<BoundLifetimes<E>> as TryClone>⟧.shown x.lifetimes, ⟦<Path<E> as TryClone>⟧.shown x.path) };
+    ghost shown = { λ x. (
+      ⟦<TraitBoundModifier as TryClone>⟧.shown x.modifier,
+      ⟦<Option<BoundLifetimes<E>> as TryClone>⟧.shown x.lifetimes,
+      ⟦<Path<E> as TryClone>⟧.shown x.path,
+    ) };
 
     fn try_clone(&self) -> Result<TraitBound<E>, AllocError> {
         Ok(TraitBound {
@@ -187,8 +211,10 @@ impl TryClone for TraitBoundModifier {
 impl TryClone for Abi {
     ghost Shown = { ⟦<token::Extern as TryClone>⟧.Shown × ⟦<Option<LitStr> as TryClone>⟧.Shown };
 
-    ghost shown = { λ x. (⟦<token::Extern as TryClone>⟧.shown x.extern_token,
-        ⟦<Option<LitStr> as TryClone>⟧.shown x.name) };
+    ghost shown = { λ x. (
+      ⟦<token::Extern as TryClone>⟧.shown x.extern_token,
+      ⟦<Option<LitStr> as TryClone>⟧.shown x.name,
+    ) };
 
     fn try_clone(&self) -> Result<Abi, AllocError> {
         Ok(Abi {
@@ -216,8 +242,12 @@ impl<E: TryClone> TryClone for Macro<E> {
     ghost Shown = { ⟦<Path<E> as TryClone>⟧.Shown × ⟦<token::Not as TryClone>⟧.Shown
         × ⟦<MacroDelimiter as TryClone>⟧.Shown × ⟦<TokenStream as TryClone>⟧.Shown };
 
-    ghost shown = { λ x. (⟦<Path<E> as TryClone>⟧.shown x.path, ⟦<token::Not as TryClone>⟧.shown x.bang_token,
-        ⟦<MacroDelimiter as TryClone>⟧.shown x.delimiter, ⟦<TokenStream as TryClone>⟧.shown x.tokens) };
+    ghost shown = { λ x. (
+      ⟦<Path<E> as TryClone>⟧.shown x.path,
+      ⟦<token::Not as TryClone>⟧.shown x.bang_token,
+      ⟦<MacroDelimiter as TryClone>⟧.shown x.delimiter,
+      ⟦<TokenStream as TryClone>⟧.shown x.tokens,
+    ) };
 
     fn try_clone(&self) -> Result<Macro<E>, AllocError> {
         Ok(Macro {
@@ -233,8 +263,10 @@ impl<E: TryClone> TryClone for Path<E> {
     ghost Shown = { ⟦<Option<token::PathSep> as TryClone>⟧.Shown
         × ⟦<Punctuated<PathSegment<E>, token::PathSep> as TryClone>⟧.Shown };
 
-    ghost shown = { λ x. (⟦<Option<token::PathSep> as TryClone>⟧.shown x.leading_colon,
-        ⟦<Punctuated<PathSegment<E>, token::PathSep> as TryClone>⟧.shown x.segments) };
+    ghost shown = { λ x. (
+      ⟦<Option<token::PathSep> as TryClone>⟧.shown x.leading_colon,
+      ⟦<Punctuated<PathSegment<E>, token::PathSep> as TryClone>⟧.shown x.segments,
+    ) };
 
     fn try_clone(&self) -> Result<Path<E>, AllocError> {
         Ok(Path {
@@ -262,17 +294,21 @@ impl<E: TryClone> TryClone for PathArguments<E> {
         ⊎ ⟦<ParenthesizedGenericArguments<E> as TryClone>⟧.Shown) };
 
     ghost shown = { elim [
-        | path_arguments_forms.None ↦ inl tt
-        | path_arguments_forms.AngleBracketed a ↦
-            inr (inl (⟦<AngleBracketedGenericArguments<E> as TryClone>⟧.shown a))
-        | path_arguments_forms.Parenthesized a ↦ inr (inr (⟦<ParenthesizedGenericArguments<E> as TryClone>⟧.shown a))
+      | path_arguments_forms.None ↦ inl tt
+      | path_arguments_forms.AngleBracketed a ↦
+          inr (inl (⟦<AngleBracketedGenericArguments<E> as TryClone>⟧.shown a))
+      | path_arguments_forms.Parenthesized a ↦ inr (inr (⟦<ParenthesizedGenericArguments<E> as TryClone>⟧.shown a))
     ] };
 
     fn try_clone(&self) -> Result<PathArguments<E>, AllocError> {
         match self {
             PathArguments::None => Ok(PathArguments::None),
-            PathArguments::AngleBracketed(node) => Ok(PathArguments::AngleBracketed(node.try_clone()?)),
-            PathArguments::Parenthesized(node) => Ok(PathArguments::Parenthesized(node.try_clone()?)),
+            PathArguments::AngleBracketed(node) => Ok(PathArguments::AngleBracketed(
+                node.try_clone()?,
+            )),
+            PathArguments::Parenthesized(node) => Ok(PathArguments::Parenthesized(
+                node.try_clone()?,
+            )),
         }
     }
 }
@@ -281,10 +317,12 @@ impl<E: TryClone> TryClone for AngleBracketedGenericArguments<E> {
     ghost Shown = { ⟦<Option<token::PathSep> as TryClone>⟧.Shown × ⟦<token::Lt as TryClone>⟧.Shown
         × ⟦<Punctuated<GenericArgument<E>, token::Comma> as TryClone>⟧.Shown × ⟦<token::Gt as TryClone>⟧.Shown };
 
-    ghost shown = { λ x. (⟦<Option<token::PathSep> as TryClone>⟧.shown x.colon2_token,
-        ⟦<token::Lt as TryClone>⟧.shown x.lt_token,
-        ⟦<Punctuated<GenericArgument<E>, token::Comma> as TryClone>⟧.shown x.args,
-        ⟦<token::Gt as TryClone>⟧.shown x.gt_token) };
+    ghost shown = { λ x. (
+      ⟦<Option<token::PathSep> as TryClone>⟧.shown x.colon2_token,
+      ⟦<token::Lt as TryClone>⟧.shown x.lt_token,
+      ⟦<Punctuated<GenericArgument<E>, token::Comma> as TryClone>⟧.shown x.args,
+      ⟦<token::Gt as TryClone>⟧.shown x.gt_token,
+    ) };
 
     fn try_clone(&self) -> Result<AngleBracketedGenericArguments<E>, AllocError> {
         Ok(AngleBracketedGenericArguments {
@@ -300,10 +338,10 @@ impl<E: TryClone> TryClone for GenericArgument<E> {
     ghost Shown = { ⟦<Lifetime as TryClone>⟧.Shown ⊎ (E.Shown ⊎ (E.Shown ⊎ ⟦<AssocType<E> as TryClone>⟧.Shown)) };
 
     ghost shown = { elim [
-        | generic_argument_forms.Lifetime a ↦ inl (⟦<Lifetime as TryClone>⟧.shown a)
-        | generic_argument_forms.«Type» a ↦ inr (inl (E.shown a))
-        | generic_argument_forms.Const a ↦ inr (inr (inl (E.shown a)))
-        | generic_argument_forms.AssocType a ↦ inr (inr (inr (⟦<AssocType<E> as TryClone>⟧.shown a)))
+      | generic_argument_forms.Lifetime a ↦ inl (⟦<Lifetime as TryClone>⟧.shown a)
+      | generic_argument_forms.«Type» a ↦ inr (inl (E.shown a))
+      | generic_argument_forms.Const a ↦ inr (inr (inl (E.shown a)))
+      | generic_argument_forms.AssocType a ↦ inr (inr (inr (⟦<AssocType<E> as TryClone>⟧.shown a)))
     ] };
 
     fn try_clone(&self) -> Result<GenericArgument<E>, AllocError> {
@@ -319,8 +357,11 @@ impl<E: TryClone> TryClone for GenericArgument<E> {
 impl<E: TryClone> TryClone for AssocType<E> {
     ghost Shown = { ⟦<Ident as TryClone>⟧.Shown × ⟦<token::Eq as TryClone>⟧.Shown × E.Shown };
 
-    ghost shown = { λ x. (⟦<Ident as TryClone>⟧.shown x.ident, ⟦<token::Eq as TryClone>⟧.shown x.eq_token,
-        E.shown x.ty) };
+    ghost shown = { λ x. (
+      ⟦<Ident as TryClone>⟧.shown x.ident,
+      ⟦<token::Eq as TryClone>⟧.shown x.eq_token,
+      E.shown x.ty,
+    ) };
 
     fn try_clone(&self) -> Result<AssocType<E>, AllocError> {
         Ok(AssocType {
@@ -335,8 +376,11 @@ impl<E: TryClone> TryClone for ParenthesizedGenericArguments<E> {
     ghost Shown = { ⟦<token::Paren as TryClone>⟧.Shown × ⟦<Punctuated<E, token::Comma> as TryClone>⟧.Shown
         × ⟦<ReturnType<E> as TryClone>⟧.Shown };
 
-    ghost shown = { λ x. (⟦<token::Paren as TryClone>⟧.shown x.paren_token,
-        ⟦<Punctuated<E, token::Comma> as TryClone>⟧.shown x.inputs, ⟦<ReturnType<E> as TryClone>⟧.shown x.output) };
+    ghost shown = { λ x. (
+      ⟦<token::Paren as TryClone>⟧.shown x.paren_token,
+      ⟦<Punctuated<E, token::Comma> as TryClone>⟧.shown x.inputs,
+      ⟦<ReturnType<E> as TryClone>⟧.shown x.output,
+    ) };
 
     fn try_clone(&self) -> Result<ParenthesizedGenericArguments<E>, AllocError> {
         Ok(ParenthesizedGenericArguments {
@@ -351,8 +395,8 @@ impl<E: TryClone> TryClone for ReturnType<E> {
     ghost Shown = { Unit {0} ⊎ (⟦<token::RArrow as TryClone>⟧.Shown × E.Shown) };
 
     ghost shown = { elim [
-        | return_type_forms.Default ↦ inl tt
-        | return_type_forms.«Type» a b ↦ inr (⟦<token::RArrow as TryClone>⟧.shown a, E.shown b)
+      | return_type_forms.Default ↦ inl tt
+      | return_type_forms.«Type» a b ↦ inr (⟦<token::RArrow as TryClone>⟧.shown a, E.shown b)
     ] };
 
     fn try_clone(&self) -> Result<ReturnType<E>, AllocError> {
@@ -367,9 +411,13 @@ impl<E: TryClone> TryClone for QSelf<E> {
     ghost Shown = { ⟦<token::Lt as TryClone>⟧.Shown × E.Shown × ⟦<usize as TryClone>⟧.Shown
         × ⟦<Option<token::As> as TryClone>⟧.Shown × ⟦<token::Gt as TryClone>⟧.Shown };
 
-    ghost shown = { λ x. (⟦<token::Lt as TryClone>⟧.shown x.lt_token, E.shown x.ty,
-        ⟦<usize as TryClone>⟧.shown x.position, ⟦<Option<token::As> as TryClone>⟧.shown x.as_token,
-        ⟦<token::Gt as TryClone>⟧.shown x.gt_token) };
+    ghost shown = { λ x. (
+      ⟦<token::Lt as TryClone>⟧.shown x.lt_token,
+      E.shown x.ty,
+      ⟦<usize as TryClone>⟧.shown x.position,
+      ⟦<Option<token::As> as TryClone>⟧.shown x.as_token,
+      ⟦<token::Gt as TryClone>⟧.shown x.gt_token,
+    ) };
 
     fn try_clone(&self) -> Result<QSelf<E>, AllocError> {
         Ok(QSelf {

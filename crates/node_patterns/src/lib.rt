@@ -3,12 +3,14 @@
 //! A pattern inside a pattern, and the type behind one, is an `E`, which holds it.
 //!
 //! - `convert` (private): structs as the enums that hold them.
+//! - `copies` (private): copies of all these.
 //! - `kinds`: each kind of pattern.
 //! - `fields`: patterns that take structs apart.
 //! - `to_tokens` (private): what is printed of them.
 #![tactic(auto)]
 
 mod convert;
+mod copies;
 pub mod fields;
 pub mod kinds;
 mod to_tokens;

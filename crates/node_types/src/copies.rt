@@ -6,7 +6,10 @@ ghost use Rattle.std.specs.Prelude.{◌≡◌, ◌⊎◌, Ok};
 
 use crate::Type;
 use crate::function::{FnPtrArg, TypeFnPtr};
-use crate::kinds::{PointerMutability, TypeArray, TypeImplTrait, TypeInfer, TypeNever, TypeParen, TypePath, TypePtr, TypeReference, TypeSlice, TypeTraitObject, TypeTuple};
+use crate::kinds::{
+    PointerMutability, TypeArray, TypeImplTrait, TypeInfer, TypeNever, TypeParen, TypePath,
+    TypePtr, TypeReference, TypeSlice, TypeTraitObject, TypeTuple,
+};
 use node_paths::attribute::Attribute;
 use node_paths::bound::{Abi, BoundLifetimes, TypeParamBound};
 use node_paths::path::{Path, QSelf, ReturnType};
@@ -22,11 +25,15 @@ impl<E: TryClone> TryClone for TypeFnPtr<E> {
         × ⟦<Option<Abi> as TryClone>⟧.Shown × ⟦<token::Fn as TryClone>⟧.Shown × ⟦<token::Paren as TryClone>⟧.Shown
         × ⟦<Punctuated<FnPtrArg<E>, token::Comma> as TryClone>⟧.Shown × ⟦<ReturnType<E> as TryClone>⟧.Shown };
 
-    ghost shown = { λ x. (⟦<Option<BoundLifetimes<E>> as TryClone>⟧.shown x.lifetimes,
-        ⟦<Option<token::Unsafe> as TryClone>⟧.shown x.unsafety, ⟦<Option<Abi> as TryClone>⟧.shown x.abi,
-        ⟦<token::Fn as TryClone>⟧.shown x.fn_token, ⟦<token::Paren as TryClone>⟧.shown x.paren_token,
-        ⟦<Punctuated<FnPtrArg<E>, token::Comma> as TryClone>⟧.shown x.inputs,
-        ⟦<ReturnType<E> as TryClone>⟧.shown x.output) };
+    ghost shown = { λ x. (
+      ⟦<Option<BoundLifetimes<E>> as TryClone>⟧.shown x.lifetimes,
+      ⟦<Option<token::Unsafe> as TryClone>⟧.shown x.unsafety,
+      ⟦<Option<Abi> as TryClone>⟧.shown x.abi,
+      ⟦<token::Fn as TryClone>⟧.shown x.fn_token,
+      ⟦<token::Paren as TryClone>⟧.shown x.paren_token,
+      ⟦<Punctuated<FnPtrArg<E>, token::Comma> as TryClone>⟧.shown x.inputs,
+      ⟦<ReturnType<E> as TryClone>⟧.shown x.output,
+    ) };
 
     fn try_clone(&self) -> Result<TypeFnPtr<E>, AllocError> {
         Ok(TypeFnPtr {
@@ -45,8 +52,11 @@ impl<E: TryClone> TryClone for FnPtrArg<E> {
     ghost Shown = { ⟦<Vec<Attribute<E>> as TryClone>⟧.Shown × ⟦<Option<(Ident, token::Colon)> as TryClone>⟧.Shown
         × E.Shown };
 
-    ghost shown = { λ x. (⟦<Vec<Attribute<E>> as TryClone>⟧.shown x.attrs,
-        ⟦<Option<(Ident, token::Colon)> as TryClone>⟧.shown x.name, E.shown x.ty) };
+    ghost shown = { λ x. (
+      ⟦<Vec<Attribute<E>> as TryClone>⟧.shown x.attrs,
+      ⟦<Option<(Ident, token::Colon)> as TryClone>⟧.shown x.name,
+      E.shown x.ty,
+    ) };
 
     fn try_clone(&self) -> Result<FnPtrArg<E>, AllocError> {
         Ok(FnPtrArg {
@@ -60,8 +70,12 @@ impl<E: TryClone> TryClone for FnPtrArg<E> {
 impl<E: TryClone> TryClone for TypeArray<E> {
     ghost Shown = { ⟦<token::Bracket as TryClone>⟧.Shown × E.Shown × ⟦<token::Semi as TryClone>⟧.Shown × E.Shown };
 
-    ghost shown = { λ x. (⟦<token::Bracket as TryClone>⟧.shown x.bracket_token, E.shown x.elem,
-        ⟦<token::Semi as TryClone>⟧.shown x.semi_token, E.shown x.len) };
+    ghost shown = { λ x. (
+      ⟦<token::Bracket as TryClone>⟧.shown x.bracket_token,
+      E.shown x.elem,
+      ⟦<token::Semi as TryClone>⟧.shown x.semi_token,
+      E.shown x.len,
+    ) };
 
     fn try_clone(&self) -> Result<TypeArray<E>, AllocError> {
         Ok(TypeArray {
@@ -77,8 +91,10 @@ impl<E: TryClone> TryClone for TypeImplTrait<E> {
     ghost Shown = { ⟦<token::Impl as TryClone>⟧.Shown
         × ⟦<Punctuated<TypeParamBound<E>, token::Plus> as TryClone>⟧.Shown };
 
-    ghost shown = { λ x. (⟦<token::Impl as TryClone>⟧.shown x.impl_token,
-        ⟦<Punctuated<TypeParamBound<E>, token::Plus> as TryClone>⟧.shown x.bounds) };
+    ghost shown = { λ x. (
+      ⟦<token::Impl as TryClone>⟧.shown x.impl_token,
+      ⟦<Punctuated<TypeParamBound<E>, token::Plus> as TryClone>⟧.shown x.bounds,
+    ) };
 
     fn try_clone(&self) -> Result<TypeImplTrait<E>, AllocError> {
         Ok(TypeImplTrait {
@@ -145,8 +161,11 @@ impl<E: TryClone> TryClone for TypePath<E> {
 impl<E: TryClone> TryClone for TypePtr<E> {
     ghost Shown = { ⟦<token::Star as TryClone>⟧.Shown × ⟦<PointerMutability as TryClone>⟧.Shown × E.Shown };
 
-    ghost shown = { λ x. (⟦<token::Star as TryClone>⟧.shown x.star_token,
-        ⟦<PointerMutability as TryClone>⟧.shown x.mutability, E.shown x.elem) };
+    ghost shown = { λ x. (
+      ⟦<token::Star as TryClone>⟧.shown x.star_token,
+      ⟦<PointerMutability as TryClone>⟧.shown x.mutability,
+      E.shown x.elem,
+    ) };
 
     fn try_clone(&self) -> Result<TypePtr<E>, AllocError> {
         Ok(TypePtr {
@@ -175,9 +194,12 @@ impl<E: TryClone> TryClone for TypeReference<E> {
     ghost Shown = { ⟦<token::And as TryClone>⟧.Shown × ⟦<Option<Lifetime> as TryClone>⟧.Shown
         × ⟦<Option<token::Mut> as TryClone>⟧.Shown × E.Shown };
 
-    ghost shown = { λ x. (⟦<token::And as TryClone>⟧.shown x.and_token,
-        ⟦<Option<Lifetime> as TryClone>⟧.shown x.lifetime, ⟦<Option<token::Mut> as TryClone>⟧.shown x.mutability,
-        E.shown x.elem) };
+    ghost shown = { λ x. (
+      ⟦<token::And as TryClone>⟧.shown x.and_token,
+      ⟦<Option<Lifetime> as TryClone>⟧.shown x.lifetime,
+      ⟦<Option<token::Mut> as TryClone>⟧.shown x.mutability,
+      E.shown x.elem,
+    ) };
 
     fn try_clone(&self) -> Result<TypeReference<E>, AllocError> {
         Ok(TypeReference {
@@ -206,8 +228,10 @@ impl<E: TryClone> TryClone for TypeTraitObject<E> {
     ghost Shown = { ⟦<token::Dyn as TryClone>⟧.Shown
         × ⟦<Punctuated<TypeParamBound<E>, token::Plus> as TryClone>⟧.Shown };
 
-    ghost shown = { λ x. (⟦<token::Dyn as TryClone>⟧.shown x.dyn_token,
-        ⟦<Punctuated<TypeParamBound<E>, token::Plus> as TryClone>⟧.shown x.bounds) };
+    ghost shown = { λ x. (
+      ⟦<token::Dyn as TryClone>⟧.shown x.dyn_token,
+      ⟦<Punctuated<TypeParamBound<E>, token::Plus> as TryClone>⟧.shown x.bounds,
+    ) };
 
     fn try_clone(&self) -> Result<TypeTraitObject<E>, AllocError> {
         Ok(TypeTraitObject {
@@ -220,8 +244,10 @@ impl<E: TryClone> TryClone for TypeTraitObject<E> {
 impl<E: TryClone> TryClone for TypeTuple<E> {
     ghost Shown = { ⟦<token::Paren as TryClone>⟧.Shown × ⟦<Punctuated<E, token::Comma> as TryClone>⟧.Shown };
 
-    ghost shown = { λ x. (⟦<token::Paren as TryClone>⟧.shown x.paren_token,
-        ⟦<Punctuated<E, token::Comma> as TryClone>⟧.shown x.elems) };
+    ghost shown = { λ x. (
+      ⟦<token::Paren as TryClone>⟧.shown x.paren_token,
+      ⟦<Punctuated<E, token::Comma> as TryClone>⟧.shown x.elems,
+    ) };
 
     fn try_clone(&self) -> Result<TypeTuple<E>, AllocError> {
         Ok(TypeTuple {
@@ -240,22 +266,22 @@ impl<E: TryClone> TryClone for Type<E> {
         ⊎ ⟦<TypeTuple<E> as TryClone>⟧.Shown)))))))))) };
 
     ghost shown = { elim [
-        | type_forms.Array a ↦ inl (⟦<TypeArray<E> as TryClone>⟧.shown a)
-        | type_forms.FnPtr a ↦ inr (inl (⟦<TypeFnPtr<E> as TryClone>⟧.shown a))
-        | type_forms.ImplTrait a ↦ inr (inr (inl (⟦<TypeImplTrait<E> as TryClone>⟧.shown a)))
-        | type_forms.Infer a ↦ inr (inr (inr (inl (⟦<TypeInfer as TryClone>⟧.shown a))))
-        | type_forms.Never a ↦ inr (inr (inr (inr (inl (⟦<TypeNever as TryClone>⟧.shown a)))))
-        | type_forms.Paren a ↦ inr (inr (inr (inr (inr (inl (⟦<TypeParen<E> as TryClone>⟧.shown a))))))
-        | type_forms.Path a ↦ inr (inr (inr (inr (inr (inr (inl (⟦<TypePath<E> as TryClone>⟧.shown a)))))))
-        | type_forms.Ptr a ↦ inr (inr (inr (inr (inr (inr (inr (inl (⟦<TypePtr<E> as TryClone>⟧.shown a))))))))
-        | type_forms.Reference a ↦
-            inr (inr (inr (inr (inr (inr (inr (inr (inl (⟦<TypeReference<E> as TryClone>⟧.shown a)))))))))
-        | type_forms.Slice a ↦
-            inr (inr (inr (inr (inr (inr (inr (inr (inr (inl (⟦<TypeSlice<E> as TryClone>⟧.shown a))))))))))
-        | type_forms.TraitObject a ↦
-            inr (inr (inr (inr (inr (inr (inr (inr (inr (inr (inl (⟦<TypeTraitObject<E> as TryClone>⟧.shown a)))))))))))
-        | type_forms.Tuple a ↦
-            inr (inr (inr (inr (inr (inr (inr (inr (inr (inr (inr (⟦<TypeTuple<E> as TryClone>⟧.shown a)))))))))))
+      | type_forms.Array a ↦ inl (⟦<TypeArray<E> as TryClone>⟧.shown a)
+      | type_forms.FnPtr a ↦ inr (inl (⟦<TypeFnPtr<E> as TryClone>⟧.shown a))
+      | type_forms.ImplTrait a ↦ inr (inr (inl (⟦<TypeImplTrait<E> as TryClone>⟧.shown a)))
+      | type_forms.Infer a ↦ inr (inr (inr (inl (⟦<TypeInfer as TryClone>⟧.shown a))))
+      | type_forms.Never a ↦ inr (inr (inr (inr (inl (⟦<TypeNever as TryClone>⟧.shown a)))))
+      | type_forms.Paren a ↦ inr (inr (inr (inr (inr (inl (⟦<TypeParen<E> as TryClone>⟧.shown a))))))
+      | type_forms.Path a ↦ inr (inr (inr (inr (inr (inr (inl (⟦<TypePath<E> as TryClone>⟧.shown a)))))))
+      | type_forms.Ptr a ↦ inr (inr (inr (inr (inr (inr (inr (inl (⟦<TypePtr<E> as TryClone>⟧.shown a))))))))
+      | type_forms.Reference a ↦
+          inr (inr (inr (inr (inr (inr (inr (inr (inl (⟦<TypeReference<E> as TryClone>⟧.shown a)))))))))
+      | type_forms.Slice a ↦
+          inr (inr (inr (inr (inr (inr (inr (inr (inr (inl (⟦<TypeSlice<E> as TryClone>⟧.shown a))))))))))
+      | type_forms.TraitObject a ↦
+          inr (inr (inr (inr (inr (inr (inr (inr (inr (inr (inl (⟦<TypeTraitObject<E> as TryClone>⟧.shown a)))))))))))
+      | type_forms.Tuple a ↦
+          inr (inr (inr (inr (inr (inr (inr (inr (inr (inr (inr (⟦<TypeTuple<E> as TryClone>⟧.shown a)))))))))))
     ] };
 
     fn try_clone(&self) -> Result<Type<E>, AllocError> {
