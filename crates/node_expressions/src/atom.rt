@@ -9,7 +9,7 @@ use syn_leaf::member::Member;
 use syn_lists::Punctuated;
 
 /// An array: `[a, b]`.
-#[derive(Drop)]
+#[derive(Drop, PartialEq, Eq)]
 pub struct ExprArray<E> {
     /// The attributes in front of it.
     pub attrs: Vec<Attribute<E>>,
@@ -20,7 +20,7 @@ pub struct ExprArray<E> {
 }
 
 /// An expression in a group without delimiters, as a macro makes it.
-#[derive(Drop)]
+#[derive(Drop, PartialEq, Eq)]
 pub struct ExprGroup<E> {
     /// The attributes in front of it.
     pub attrs: Vec<Attribute<E>>,
@@ -31,7 +31,7 @@ pub struct ExprGroup<E> {
 }
 
 /// A value that is found out, or thrown away: `_`.
-#[derive(Drop)]
+#[derive(Drop, PartialEq, Eq)]
 pub struct ExprInfer<E> {
     /// The attributes in front of it.
     pub attrs: Vec<Attribute<E>>,
@@ -40,7 +40,7 @@ pub struct ExprInfer<E> {
 }
 
 /// A literal: `1` or `"text"`.
-#[derive(Drop)]
+#[derive(Drop, PartialEq, Eq)]
 pub struct ExprLit<E> {
     /// The attributes in front of it.
     pub attrs: Vec<Attribute<E>>,
@@ -49,7 +49,7 @@ pub struct ExprLit<E> {
 }
 
 /// A call of a macro: `format!("{}", x)`.
-#[derive(Drop)]
+#[derive(Drop, PartialEq, Eq)]
 pub struct ExprMacro<E> {
     /// The attributes in front of it.
     pub attrs: Vec<Attribute<E>>,
@@ -58,7 +58,7 @@ pub struct ExprMacro<E> {
 }
 
 /// An expression in parentheses: `(a + b)`.
-#[derive(Drop)]
+#[derive(Drop, PartialEq, Eq)]
 pub struct ExprParen<E> {
     /// The attributes in front of it.
     pub attrs: Vec<Attribute<E>>,
@@ -69,7 +69,7 @@ pub struct ExprParen<E> {
 }
 
 /// A path: `std::mem::swap` or `<T as Limit>::MAX`.
-#[derive(Drop)]
+#[derive(Drop, PartialEq, Eq)]
 pub struct ExprPath<E> {
     /// The attributes in front of it.
     pub attrs: Vec<Attribute<E>>,
@@ -80,7 +80,7 @@ pub struct ExprPath<E> {
 }
 
 /// An array of equal elements: `[0; N]`.
-#[derive(Drop)]
+#[derive(Drop, PartialEq, Eq)]
 pub struct ExprRepeat<E> {
     /// The attributes in front of it.
     pub attrs: Vec<Attribute<E>>,
@@ -95,7 +95,7 @@ pub struct ExprRepeat<E> {
 }
 
 /// A struct: `Point { x: 1, ..other }`.
-#[derive(Drop)]
+#[derive(Drop, PartialEq, Eq)]
 pub struct ExprStruct<E> {
     /// The attributes in front of it.
     pub attrs: Vec<Attribute<E>>,
@@ -114,7 +114,7 @@ pub struct ExprStruct<E> {
 }
 
 /// A field of a struct with its value: `x: 1`, or `x` alone.
-#[derive(Drop)]
+#[derive(Drop, PartialEq, Eq)]
 pub struct FieldValue<E> {
     /// The attributes in front of it.
     pub attrs: Vec<Attribute<E>>,
@@ -127,7 +127,7 @@ pub struct FieldValue<E> {
 }
 
 /// A tuple: `(a, b)`.
-#[derive(Drop)]
+#[derive(Drop, PartialEq, Eq)]
 pub struct ExprTuple<E> {
     /// The attributes in front of it.
     pub attrs: Vec<Attribute<E>>,

@@ -9,7 +9,7 @@ use syn_kinds::lifetime::Lifetime;
 use syn_kinds::token;
 
 /// Statements in braces: `{ f(); x }`.
-#[derive(Drop)]
+#[derive(Drop, PartialEq, Eq)]
 pub struct Block<E> {
     /// `{ }`
     pub brace_token: token::Brace,
@@ -44,7 +44,7 @@ pub struct Label {
 }
 
 /// A block that runs later: `async move { .. }`.
-#[derive(Drop)]
+#[derive(Drop, PartialEq, Eq)]
 pub struct ExprAsync<E> {
     /// The attributes in front of it.
     pub attrs: Vec<Attribute<E>>,
@@ -57,7 +57,7 @@ pub struct ExprAsync<E> {
 }
 
 /// A block: `'a: { .. }`.
-#[derive(Drop)]
+#[derive(Drop, PartialEq, Eq)]
 pub struct ExprBlock<E> {
     /// The attributes in front of it, then those inside.
     pub attrs: Vec<Attribute<E>>,
@@ -70,7 +70,7 @@ pub struct ExprBlock<E> {
 }
 
 /// A block that is a constant: `const { .. }`.
-#[derive(Drop)]
+#[derive(Drop, PartialEq, Eq)]
 pub struct ExprConst<E> {
     /// The attributes in front of it, then those inside.
     pub attrs: Vec<Attribute<E>>,
@@ -81,7 +81,7 @@ pub struct ExprConst<E> {
 }
 
 /// A loop over the elements of an iterator: `for x in xs { .. }`.
-#[derive(Drop)]
+#[derive(Drop, PartialEq, Eq)]
 pub struct ExprForLoop<E> {
     /// The attributes in front of it, then those inside.
     pub attrs: Vec<Attribute<E>>,
@@ -100,7 +100,7 @@ pub struct ExprForLoop<E> {
 }
 
 /// A loop without an end of its own: `loop { .. }`.
-#[derive(Drop)]
+#[derive(Drop, PartialEq, Eq)]
 pub struct ExprLoop<E> {
     /// The attributes in front of it, then those inside.
     pub attrs: Vec<Attribute<E>>,
@@ -113,7 +113,7 @@ pub struct ExprLoop<E> {
 }
 
 /// A block whose errors are its value: `try { .. }`.
-#[derive(Drop)]
+#[derive(Drop, PartialEq, Eq)]
 pub struct ExprTryBlock<E> {
     /// The attributes in front of it.
     pub attrs: Vec<Attribute<E>>,
@@ -124,7 +124,7 @@ pub struct ExprTryBlock<E> {
 }
 
 /// An unsafe block: `unsafe { .. }`.
-#[derive(Drop)]
+#[derive(Drop, PartialEq, Eq)]
 pub struct ExprUnsafe<E> {
     /// The attributes in front of it, then those inside.
     pub attrs: Vec<Attribute<E>>,
@@ -135,7 +135,7 @@ pub struct ExprUnsafe<E> {
 }
 
 /// A loop while a condition holds: `while c { .. }`.
-#[derive(Drop)]
+#[derive(Drop, PartialEq, Eq)]
 pub struct ExprWhile<E> {
     /// The attributes in front of it, then those inside.
     pub attrs: Vec<Attribute<E>>,

@@ -5,7 +5,7 @@ use node_paths::attribute::Attribute;
 use syn_kinds::token;
 
 /// A choice by a condition: `if c { .. } else { .. }`.
-#[derive(Drop)]
+#[derive(Drop, PartialEq, Eq)]
 pub struct ExprIf<E> {
     /// The attributes in front of it.
     pub attrs: Vec<Attribute<E>>,
@@ -20,7 +20,7 @@ pub struct ExprIf<E> {
 }
 
 /// Whether a pattern matches, in a condition: `let Some(x) = y`.
-#[derive(Drop)]
+#[derive(Drop, PartialEq, Eq)]
 pub struct ExprLet<E> {
     /// The attributes in front of it.
     pub attrs: Vec<Attribute<E>>,
@@ -35,7 +35,7 @@ pub struct ExprLet<E> {
 }
 
 /// A choice by patterns: `match x { Some(y) => y, None => 0 }`.
-#[derive(Drop)]
+#[derive(Drop, PartialEq, Eq)]
 pub struct ExprMatch<E> {
     /// The attributes in front of it, then those inside.
     pub attrs: Vec<Attribute<E>>,
@@ -50,7 +50,7 @@ pub struct ExprMatch<E> {
 }
 
 /// An arm of a `match`: `Some(y) if y > 0 => y,`.
-#[derive(Drop)]
+#[derive(Drop, PartialEq, Eq)]
 pub struct Arm<E> {
     /// The attributes in front of it.
     pub attrs: Vec<Attribute<E>>,

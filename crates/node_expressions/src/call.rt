@@ -8,7 +8,7 @@ use syn_leaf::member::Member;
 use syn_lists::Punctuated;
 
 /// What a future becomes: `f.await`.
-#[derive(Drop)]
+#[derive(Drop, PartialEq, Eq)]
 pub struct ExprAwait<E> {
     /// The attributes in front of it.
     pub attrs: Vec<Attribute<E>>,
@@ -21,7 +21,7 @@ pub struct ExprAwait<E> {
 }
 
 /// A call: `f(a, b)`.
-#[derive(Drop)]
+#[derive(Drop, PartialEq, Eq)]
 pub struct ExprCall<E> {
     /// The attributes in front of it.
     pub attrs: Vec<Attribute<E>>,
@@ -34,7 +34,7 @@ pub struct ExprCall<E> {
 }
 
 /// A field: `point.x` or `pair.0`.
-#[derive(Drop)]
+#[derive(Drop, PartialEq, Eq)]
 pub struct ExprField<E> {
     /// The attributes in front of it.
     pub attrs: Vec<Attribute<E>>,
@@ -47,7 +47,7 @@ pub struct ExprField<E> {
 }
 
 /// An element: `v[2]`.
-#[derive(Drop)]
+#[derive(Drop, PartialEq, Eq)]
 pub struct ExprIndex<E> {
     /// The attributes in front of it.
     pub attrs: Vec<Attribute<E>>,
@@ -60,7 +60,7 @@ pub struct ExprIndex<E> {
 }
 
 /// A call of a method: `x.get::<T>(a, b)`.
-#[derive(Drop)]
+#[derive(Drop, PartialEq, Eq)]
 pub struct ExprMethodCall<E> {
     /// The attributes in front of it.
     pub attrs: Vec<Attribute<E>>,
@@ -79,7 +79,7 @@ pub struct ExprMethodCall<E> {
 }
 
 /// A value, or its error at once to the caller: `x?`.
-#[derive(Drop)]
+#[derive(Drop, PartialEq, Eq)]
 pub struct ExprTry<E> {
     /// The attributes in front of it.
     pub attrs: Vec<Attribute<E>>,

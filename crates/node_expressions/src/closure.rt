@@ -10,7 +10,7 @@ use syn_kinds::token;
 use syn_lists::Punctuated;
 
 /// A closure: `move |a, b: u8| a + b`.
-#[derive(Drop)]
+#[derive(Drop, PartialEq, Eq)]
 pub struct ExprClosure<E> {
     /// The attributes in front of it.
     pub attrs: Vec<Attribute<E>>,

@@ -17,7 +17,7 @@ use crate::operator::{
 use proc_macro2::tree::TokenStream;
 
 /// An expression, by its form. What stands inside it is an `E`.
-#[derive(Drop)]
+#[derive(Drop, PartialEq, Eq)]
 pub enum Expr<E> {
     /// An array: `[a, b]`.
     Array(ExprArray<E>),

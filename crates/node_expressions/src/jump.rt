@@ -5,7 +5,7 @@ use syn_kinds::lifetime::Lifetime;
 use syn_kinds::token;
 
 /// The end of a loop or of a block: `break 'a x`.
-#[derive(Drop)]
+#[derive(Drop, PartialEq, Eq)]
 pub struct ExprBreak<E> {
     /// The attributes in front of it.
     pub attrs: Vec<Attribute<E>>,
@@ -18,7 +18,7 @@ pub struct ExprBreak<E> {
 }
 
 /// The next turn of a loop: `continue 'a`.
-#[derive(Drop)]
+#[derive(Drop, PartialEq, Eq)]
 pub struct ExprContinue<E> {
     /// The attributes in front of it.
     pub attrs: Vec<Attribute<E>>,
@@ -29,7 +29,7 @@ pub struct ExprContinue<E> {
 }
 
 /// The end of a function: `return x`.
-#[derive(Drop)]
+#[derive(Drop, PartialEq, Eq)]
 pub struct ExprReturn<E> {
     /// The attributes in front of it.
     pub attrs: Vec<Attribute<E>>,
@@ -40,7 +40,7 @@ pub struct ExprReturn<E> {
 }
 
 /// A value that a generator gives: `yield x`.
-#[derive(Drop)]
+#[derive(Drop, PartialEq, Eq)]
 pub struct ExprYield<E> {
     /// The attributes in front of it.
     pub attrs: Vec<Attribute<E>>,

@@ -10,6 +10,7 @@
 //! - `branch`: expressions that choose.
 //! - `closure`: closures.
 //! - `convert` (private): structs as the enum that holds them.
+//! - `copies`, `copies_blocks`, `copies_forms` (private): copies of all these.
 //! - `expr`: expressions, each of one form.
 //! - `jump`: expressions that leave what runs.
 //! - `label` (private): labels, read from a stream and printed.
@@ -29,6 +30,9 @@ pub mod branch;
 pub mod call;
 pub mod closure;
 mod convert;
+mod copies;
+mod copies_blocks;
+mod copies_forms;
 pub mod expr;
 pub mod jump;
 mod label;

@@ -6,7 +6,7 @@ use syn_kinds::token;
 use syn_leaf::operators::{BinOp, RangeLimits, UnOp};
 
 /// An assignment: `a = b`.
-#[derive(Drop)]
+#[derive(Drop, PartialEq, Eq)]
 pub struct ExprAssign<E> {
     /// The attributes in front of it.
     pub attrs: Vec<Attribute<E>>,
@@ -19,7 +19,7 @@ pub struct ExprAssign<E> {
 }
 
 /// An operator between two operands: `a + b` or `a += b`.
-#[derive(Drop)]
+#[derive(Drop, PartialEq, Eq)]
 pub struct ExprBinary<E> {
     /// The attributes in front of it.
     pub attrs: Vec<Attribute<E>>,
@@ -32,7 +32,7 @@ pub struct ExprBinary<E> {
 }
 
 /// A cast: `x as f64`.
-#[derive(Drop)]
+#[derive(Drop, PartialEq, Eq)]
 pub struct ExprCast<E> {
     /// The attributes in front of it.
     pub attrs: Vec<Attribute<E>>,
@@ -45,7 +45,7 @@ pub struct ExprCast<E> {
 }
 
 /// A range: `1..2`, `1..`, `..2` or `..`.
-#[derive(Drop)]
+#[derive(Drop, PartialEq, Eq)]
 pub struct ExprRange<E> {
     /// The attributes in front of it.
     pub attrs: Vec<Attribute<E>>,
@@ -58,7 +58,7 @@ pub struct ExprRange<E> {
 }
 
 /// A raw pointer to a place: `&raw const x` or `&raw mut x`.
-#[derive(Drop)]
+#[derive(Drop, PartialEq, Eq)]
 pub struct ExprRawAddr<E> {
     /// The attributes in front of it.
     pub attrs: Vec<Attribute<E>>,
@@ -73,7 +73,7 @@ pub struct ExprRawAddr<E> {
 }
 
 /// A reference: `&x` or `&mut x`.
-#[derive(Drop)]
+#[derive(Drop, PartialEq, Eq)]
 pub struct ExprReference<E> {
     /// The attributes in front of it.
     pub attrs: Vec<Attribute<E>>,
@@ -86,7 +86,7 @@ pub struct ExprReference<E> {
 }
 
 /// An operator in front of an operand: `!x` or `*x`.
-#[derive(Drop)]
+#[derive(Drop, PartialEq, Eq)]
 pub struct ExprUnary<E> {
     /// The attributes in front of it.
     pub attrs: Vec<Attribute<E>>,

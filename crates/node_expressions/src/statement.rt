@@ -8,7 +8,7 @@ use syn_error::Result;
 use syn_kinds::token;
 
 /// A statement.
-#[derive(Drop)]
+#[derive(Drop, PartialEq, Eq)]
 pub enum Stmt<E> {
     /// A variable: `let x: u8 = 1;`.
     Local(Local<E>),
@@ -21,7 +21,7 @@ pub enum Stmt<E> {
 }
 
 /// A variable: `let Some(x) = y else { return };`.
-#[derive(Drop)]
+#[derive(Drop, PartialEq, Eq)]
 pub struct Local<E> {
     /// The attributes in front of it.
     pub attrs: Vec<Attribute<E>>,
@@ -38,7 +38,7 @@ pub struct Local<E> {
 }
 
 /// What a variable becomes at first: `= y else { return }`.
-#[derive(Drop)]
+#[derive(Drop, PartialEq, Eq)]
 pub struct LocalInit<E> {
     /// `=`
     pub eq_token: token::Eq,
@@ -66,7 +66,7 @@ impl LocalModifiers {
 }
 
 /// A call of a macro as a statement: `println!("{}", x);`.
-#[derive(Drop)]
+#[derive(Drop, PartialEq, Eq)]
 pub struct StmtMacro<E> {
     /// The attributes in front of it.
     pub attrs: Vec<Attribute<E>>,

@@ -6,7 +6,7 @@ use syn_kinds::token;
 use syn_lists::Punctuated;
 
 /// Conditions: `where T: Clone, 'a: 'b`.
-#[derive(Drop)]
+#[derive(Drop, PartialEq, Eq)]
 pub struct WhereClause<E> {
     /// `where`
     pub where_token: token::Where,
@@ -15,7 +15,7 @@ pub struct WhereClause<E> {
 }
 
 /// A condition.
-#[derive(Drop)]
+#[derive(Drop, PartialEq, Eq)]
 pub enum WherePredicate<E> {
     /// On a lifetime: `'a: 'b + 'c`.
     Lifetime(PredicateLifetime),
@@ -35,7 +35,7 @@ pub struct PredicateLifetime {
 }
 
 /// A condition on a type: `for<'a> F: Fn(&'a T)`.
-#[derive(Drop)]
+#[derive(Drop, PartialEq, Eq)]
 pub struct PredicateType<E> {
     /// The lifetimes that it binds, if `for<..>` stands in front.
     pub lifetimes: Option<BoundLifetimes<E>>,

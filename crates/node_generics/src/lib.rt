@@ -3,6 +3,7 @@
 //! A type or an expression in them is an `E`, which holds it.
 //!
 //! - `convert` (private): structs as the enums that hold them.
+//! - `copies` (private): copies of all these.
 //! - `param`: the parameters.
 //! - `clause`: the conditions behind `where`.
 //! - `parse` (private): all these, read from a stream.
@@ -16,6 +17,7 @@ ghost use Rattle.syn_lists.specs.Lists.{separators, values};
 
 pub mod clause;
 mod convert;
+mod copies;
 pub mod param;
 mod parse;
 mod to_tokens;
@@ -30,7 +32,7 @@ use syn_lists::Punctuated;
 pub use visibility::{VisRestricted, Visibility};
 
 /// The parameters of an item, and the conditions on them: `<'a, T: Clone>` and `where T: 'a`.
-#[derive(Drop)]
+#[derive(Drop, PartialEq, Eq)]
 pub struct Generics<E> {
     /// `<`, if it is there.
     pub lt_token: Option<token::Lt>,

@@ -7,7 +7,7 @@ use syn_kinds::token;
 use syn_lists::Punctuated;
 
 /// A parameter of an item.
-#[derive(Drop)]
+#[derive(Drop, PartialEq, Eq)]
 pub enum GenericParam<E> {
     /// A lifetime: `'a: 'b`.
     Lifetime(LifetimeParam<E>),
@@ -18,7 +18,7 @@ pub enum GenericParam<E> {
 }
 
 /// A parameter that stands for a type: `T: Clone = u8`.
-#[derive(Drop)]
+#[derive(Drop, PartialEq, Eq)]
 pub struct TypeParam<E> {
     /// The attributes in front of it.
     pub attrs: Vec<Attribute<E>>,
@@ -35,7 +35,7 @@ pub struct TypeParam<E> {
 }
 
 /// A parameter that stands for a constant: `const N: usize = 4`.
-#[derive(Drop)]
+#[derive(Drop, PartialEq, Eq)]
 pub struct ConstParam<E> {
     /// The attributes in front of it.
     pub attrs: Vec<Attribute<E>>,

@@ -4,7 +4,7 @@ use node_paths::path::Path;
 use syn_kinds::token;
 
 /// Who may name an item or a field.
-#[derive(Drop)]
+#[derive(Drop, PartialEq, Eq)]
 pub enum Visibility<E> {
     /// Everyone: `pub`.
     Public(token::Pub),
@@ -15,7 +15,7 @@ pub enum Visibility<E> {
 }
 
 /// Who may name an item, by a module: `pub(crate)` or `pub(in a::b)`.
-#[derive(Drop)]
+#[derive(Drop, PartialEq, Eq)]
 pub struct VisRestricted<E> {
     /// `pub`
     pub pub_token: token::Pub,

@@ -9,7 +9,7 @@ use rust_leaf::ident::Ident;
 use syn_kinds::token;
 
 /// A type with another name: `type Result<T> = std::result::Result<T, Error>;`.
-#[derive(Drop)]
+#[derive(Drop, PartialEq, Eq)]
 pub struct ItemType<E> {
     /// The attributes in front of it.
     pub attrs: Vec<Attribute<E>>,

@@ -12,7 +12,7 @@ use syn_kinds::token;
 use syn_lists::Punctuated;
 
 /// The fields of a struct or of a variant.
-#[derive(Drop)]
+#[derive(Drop, PartialEq, Eq)]
 pub enum Fields<E> {
     /// With names: `{ x: f64, y: f64 }`.
     Named(FieldsNamed<E>),
@@ -23,7 +23,7 @@ pub enum Fields<E> {
 }
 
 /// Fields with names: `{ x: f64, y: f64 }`.
-#[derive(Drop)]
+#[derive(Drop, PartialEq, Eq)]
 pub struct FieldsNamed<E> {
     /// `{ }`
     pub brace_token: token::Brace,
@@ -32,7 +32,7 @@ pub struct FieldsNamed<E> {
 }
 
 /// Fields without names: `(f64, f64)`.
-#[derive(Drop)]
+#[derive(Drop, PartialEq, Eq)]
 pub struct FieldsUnnamed<E> {
     /// `( )`
     pub paren_token: token::Paren,
@@ -41,7 +41,7 @@ pub struct FieldsUnnamed<E> {
 }
 
 /// A field of a struct or of a variant: `pub x: f64`.
-#[derive(Drop)]
+#[derive(Drop, PartialEq, Eq)]
 pub struct Field<E> {
     /// The attributes in front of it.
     pub attrs: Vec<Attribute<E>>,
@@ -77,7 +77,7 @@ impl FieldModifiers {
 }
 
 /// A variant of an enum: `Some(T)` or `Red = 1`.
-#[derive(Drop)]
+#[derive(Drop, PartialEq, Eq)]
 pub struct Variant<E> {
     /// The attributes in front of it.
     pub attrs: Vec<Attribute<E>>,
@@ -90,7 +90,7 @@ pub struct Variant<E> {
 }
 
 /// A struct: `struct Point { x: f64, y: f64 }`.
-#[derive(Drop)]
+#[derive(Drop, PartialEq, Eq)]
 pub struct ItemStruct<E> {
     /// The attributes in front of it.
     pub attrs: Vec<Attribute<E>>,
@@ -109,7 +109,7 @@ pub struct ItemStruct<E> {
 }
 
 /// An enum: `enum Option<T> { None, Some(T) }`.
-#[derive(Drop)]
+#[derive(Drop, PartialEq, Eq)]
 pub struct ItemEnum<E> {
     /// The attributes in front of it.
     pub attrs: Vec<Attribute<E>>,
@@ -128,7 +128,7 @@ pub struct ItemEnum<E> {
 }
 
 /// A union: `union Bits { x: u32, y: f32 }`.
-#[derive(Drop)]
+#[derive(Drop, PartialEq, Eq)]
 pub struct ItemUnion<E> {
     /// The attributes in front of it.
     pub attrs: Vec<Attribute<E>>,

@@ -9,7 +9,7 @@ use syn_kinds::token;
 use syn_lists::Punctuated;
 
 /// A struct, an enum or a union, as a derive reads it.
-#[derive(Drop)]
+#[derive(Drop, PartialEq, Eq)]
 pub struct DeriveInput<E> {
     /// The attributes in front of it.
     pub attrs: Vec<Attribute<E>>,
@@ -24,7 +24,7 @@ pub struct DeriveInput<E> {
 }
 
 /// What a struct, an enum or a union consists of.
-#[derive(Drop)]
+#[derive(Drop, PartialEq, Eq)]
 pub enum Data<E> {
     /// A struct.
     Struct(DataStruct<E>),
@@ -35,7 +35,7 @@ pub enum Data<E> {
 }
 
 /// What a struct consists of.
-#[derive(Drop)]
+#[derive(Drop, PartialEq, Eq)]
 pub struct DataStruct<E> {
     /// `struct`
     pub struct_token: token::Struct,
@@ -46,7 +46,7 @@ pub struct DataStruct<E> {
 }
 
 /// What an enum consists of.
-#[derive(Drop)]
+#[derive(Drop, PartialEq, Eq)]
 pub struct DataEnum<E> {
     /// `enum`
     pub enum_token: token::Enum,
@@ -57,7 +57,7 @@ pub struct DataEnum<E> {
 }
 
 /// What a union consists of.
-#[derive(Drop)]
+#[derive(Drop, PartialEq, Eq)]
 pub struct DataUnion<E> {
     /// `union`
     pub union_token: token::Union,

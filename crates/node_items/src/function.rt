@@ -19,7 +19,7 @@ use syn_kinds::token;
 use syn_lists::Punctuated;
 
 /// A function: `fn f(n: usize) -> bool { .. }`.
-#[derive(Drop)]
+#[derive(Drop, PartialEq, Eq)]
 pub struct ItemFn<E> {
     /// The attributes in front of it, then those inside.
     pub attrs: Vec<Attribute<E>>,
@@ -34,7 +34,7 @@ pub struct ItemFn<E> {
 }
 
 /// What a function takes and gives: `unsafe extern "C" fn f<T>(x: T) -> u8`.
-#[derive(Drop)]
+#[derive(Drop, PartialEq, Eq)]
 pub struct Signature<E> {
     /// `const`, if it is there.
     pub constness: Option<token::Const>,
@@ -95,7 +95,7 @@ impl Default for Safety {
 }
 
 /// A parameter of a function.
-#[derive(Drop)]
+#[derive(Drop, PartialEq, Eq)]
 pub enum FnArg<E> {
     /// What a method is called on: `&self`.
     Receiver(Receiver<E>),
@@ -104,7 +104,7 @@ pub enum FnArg<E> {
 }
 
 /// What a method is called on: `&mut self` or `self: Box<Self>`.
-#[derive(Drop)]
+#[derive(Drop, PartialEq, Eq)]
 pub struct Receiver<E> {
     /// The attributes in front of it.
     pub attrs: Vec<Attribute<E>>,
@@ -117,7 +117,7 @@ pub struct Receiver<E> {
 }
 
 /// How a method takes what it is called on.
-#[derive(Drop)]
+#[derive(Drop, PartialEq, Eq)]
 pub enum ReceiverKind<E> {
     /// Itself: `self`.
     Value,
@@ -128,7 +128,7 @@ pub enum ReceiverKind<E> {
 }
 
 /// Any number of arguments more: `args: ...`.
-#[derive(Drop)]
+#[derive(Drop, PartialEq, Eq)]
 pub struct Variadic<E> {
     /// The attributes in front of it.
     pub attrs: Vec<Attribute<E>>,

@@ -14,7 +14,7 @@ use rust_leaf::ident::Ident;
 use syn_kinds::token;
 
 /// An impl: `impl<T> Trait for Type<T> { .. }`.
-#[derive(Drop)]
+#[derive(Drop, PartialEq, Eq)]
 pub struct ItemImpl<E> {
     /// The attributes in front of it, then those inside.
     pub attrs: Vec<Attribute<E>>,
@@ -37,7 +37,7 @@ pub struct ItemImpl<E> {
 }
 
 /// An item of an impl.
-#[derive(Drop)]
+#[derive(Drop, PartialEq, Eq)]
 pub enum ImplItem<E> {
     /// A constant.
     Const(ImplItemConst<E>),
@@ -52,7 +52,7 @@ pub enum ImplItem<E> {
 }
 
 /// A constant of an impl: `const MAX: u16 = 65535;`.
-#[derive(Drop)]
+#[derive(Drop, PartialEq, Eq)]
 pub struct ImplItemConst<E> {
     /// The attributes in front of it.
     pub attrs: Vec<Attribute<E>>,
@@ -79,7 +79,7 @@ pub struct ImplItemConst<E> {
 }
 
 /// A function of an impl: `fn f(&self) { .. }`.
-#[derive(Drop)]
+#[derive(Drop, PartialEq, Eq)]
 pub struct ImplItemFn<E> {
     /// The attributes in front of it, then those inside.
     pub attrs: Vec<Attribute<E>>,
@@ -94,7 +94,7 @@ pub struct ImplItemFn<E> {
 }
 
 /// A type of an impl: `type Item = u8;`.
-#[derive(Drop)]
+#[derive(Drop, PartialEq, Eq)]
 pub struct ImplItemType<E> {
     /// The attributes in front of it.
     pub attrs: Vec<Attribute<E>>,
@@ -117,7 +117,7 @@ pub struct ImplItemType<E> {
 }
 
 /// A call of a macro among the items of an impl.
-#[derive(Drop)]
+#[derive(Drop, PartialEq, Eq)]
 pub struct ImplItemMacro<E> {
     /// The attributes in front of it.
     pub attrs: Vec<Attribute<E>>,

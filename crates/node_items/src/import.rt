@@ -7,7 +7,7 @@ use syn_kinds::token;
 use syn_lists::Punctuated;
 
 /// An import: `use std::collections::HashMap;`.
-#[derive(Drop)]
+#[derive(Drop, PartialEq, Eq)]
 pub struct ItemUse<E> {
     /// The attributes in front of it.
     pub attrs: Vec<Attribute<E>>,

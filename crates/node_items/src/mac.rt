@@ -6,7 +6,7 @@ use rust_leaf::ident::Ident;
 use syn_kinds::token;
 
 /// A call of a macro as an item: `macro_rules! name { .. }`.
-#[derive(Drop)]
+#[derive(Drop, PartialEq, Eq)]
 pub struct ItemMacro<E> {
     /// The attributes in front of it.
     pub attrs: Vec<Attribute<E>>,

@@ -14,7 +14,7 @@ use rust_leaf::ident::Ident;
 use syn_kinds::token;
 
 /// A module: `mod m { .. }` or `mod m;`.
-#[derive(Drop)]
+#[derive(Drop, PartialEq, Eq)]
 pub struct ItemMod<E> {
     /// The attributes in front of it, then those inside.
     pub attrs: Vec<Attribute<E>>,
@@ -33,7 +33,7 @@ pub struct ItemMod<E> {
 }
 
 /// A crate by its name: `extern crate serde as s;`.
-#[derive(Drop)]
+#[derive(Drop, PartialEq, Eq)]
 pub struct ItemExternCrate<E> {
     /// The attributes in front of it.
     pub attrs: Vec<Attribute<E>>,
@@ -52,7 +52,7 @@ pub struct ItemExternCrate<E> {
 }
 
 /// Items of another language: `extern "C" { .. }`.
-#[derive(Drop)]
+#[derive(Drop, PartialEq, Eq)]
 pub struct ItemForeignMod<E> {
     /// The attributes in front of it, then those inside.
     pub attrs: Vec<Attribute<E>>,
@@ -67,7 +67,7 @@ pub struct ItemForeignMod<E> {
 }
 
 /// An item of another language.
-#[derive(Drop)]
+#[derive(Drop, PartialEq, Eq)]
 pub enum ForeignItem<E> {
     /// A function: `fn exit(code: i32) -> !;`.
     Fn(ForeignItemFn<E>),
@@ -82,7 +82,7 @@ pub enum ForeignItem<E> {
 }
 
 /// A function of another language: `fn exit(code: i32) -> !;`.
-#[derive(Drop)]
+#[derive(Drop, PartialEq, Eq)]
 pub struct ForeignItemFn<E> {
     /// The attributes in front of it.
     pub attrs: Vec<Attribute<E>>,
@@ -97,7 +97,7 @@ pub struct ForeignItemFn<E> {
 }
 
 /// A static of another language: `static errno: i32;`.
-#[derive(Drop)]
+#[derive(Drop, PartialEq, Eq)]
 pub struct ForeignItemStatic<E> {
     /// The attributes in front of it.
     pub attrs: Vec<Attribute<E>>,
@@ -120,7 +120,7 @@ pub struct ForeignItemStatic<E> {
 }
 
 /// A type of another language: `type Handle;`.
-#[derive(Drop)]
+#[derive(Drop, PartialEq, Eq)]
 pub struct ForeignItemType<E> {
     /// The attributes in front of it.
     pub attrs: Vec<Attribute<E>>,
@@ -139,7 +139,7 @@ pub struct ForeignItemType<E> {
 }
 
 /// A call of a macro among items of another language.
-#[derive(Drop)]
+#[derive(Drop, PartialEq, Eq)]
 pub struct ForeignItemMacro<E> {
     /// The attributes in front of it.
     pub attrs: Vec<Attribute<E>>,

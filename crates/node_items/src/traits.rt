@@ -15,7 +15,7 @@ use syn_kinds::token;
 use syn_lists::Punctuated;
 
 /// A trait: `trait Iterator { .. }`.
-#[derive(Drop)]
+#[derive(Drop, PartialEq, Eq)]
 pub struct ItemTrait<E> {
     /// The attributes in front of it, then those inside.
     pub attrs: Vec<Attribute<E>>,
@@ -42,7 +42,7 @@ pub struct ItemTrait<E> {
 }
 
 /// Bounds with a name: `trait Shared = Clone + Sync;`.
-#[derive(Drop)]
+#[derive(Drop, PartialEq, Eq)]
 pub struct ItemTraitAlias<E> {
     /// The attributes in front of it.
     pub attrs: Vec<Attribute<E>>,
@@ -63,7 +63,7 @@ pub struct ItemTraitAlias<E> {
 }
 
 /// An item of a trait.
-#[derive(Drop)]
+#[derive(Drop, PartialEq, Eq)]
 pub enum TraitItem<E> {
     /// A constant.
     Const(TraitItemConst<E>),
@@ -78,7 +78,7 @@ pub enum TraitItem<E> {
 }
 
 /// A constant of a trait: `const MAX: u16;`.
-#[derive(Drop)]
+#[derive(Drop, PartialEq, Eq)]
 pub struct TraitItemConst<E> {
     /// The attributes in front of it.
     pub attrs: Vec<Attribute<E>>,
@@ -101,7 +101,7 @@ pub struct TraitItemConst<E> {
 }
 
 /// A function of a trait: `fn f(&self);`.
-#[derive(Drop)]
+#[derive(Drop, PartialEq, Eq)]
 pub struct TraitItemFn<E> {
     /// The attributes in front of it, then those inside.
     pub attrs: Vec<Attribute<E>>,
@@ -116,7 +116,7 @@ pub struct TraitItemFn<E> {
 }
 
 /// A type of a trait: `type Item: Clone;`.
-#[derive(Drop)]
+#[derive(Drop, PartialEq, Eq)]
 pub struct TraitItemType<E> {
     /// The attributes in front of it.
     pub attrs: Vec<Attribute<E>>,
@@ -139,7 +139,7 @@ pub struct TraitItemType<E> {
 }
 
 /// A call of a macro among the items of a trait.
-#[derive(Drop)]
+#[derive(Drop, PartialEq, Eq)]
 pub struct TraitItemMacro<E> {
     /// The attributes in front of it.
     pub attrs: Vec<Attribute<E>>,

@@ -9,7 +9,7 @@ use rust_leaf::ident::Ident;
 use syn_kinds::token;
 
 /// A constant: `const MAX: u16 = 65535;`.
-#[derive(Drop)]
+#[derive(Drop, PartialEq, Eq)]
 pub struct ItemConst<E> {
     /// The attributes in front of it.
     pub attrs: Vec<Attribute<E>>,
@@ -36,7 +36,7 @@ pub struct ItemConst<E> {
 }
 
 /// A static: `static BIKE: Shed = Shed(42);`.
-#[derive(Drop)]
+#[derive(Drop, PartialEq, Eq)]
 pub struct ItemStatic<E> {
     /// The attributes in front of it.
     pub attrs: Vec<Attribute<E>>,

@@ -15,7 +15,7 @@ pub enum AttrStyle {
 }
 
 /// An attribute: `#[inline]`, `#[doc = "text"]` or `#[derive(Clone)]`.
-#[derive(Drop)]
+#[derive(Drop, PartialEq, Eq)]
 pub struct Attribute<E> {
     /// `#`
     pub pound_token: token::Pound,
@@ -28,7 +28,7 @@ pub struct Attribute<E> {
 }
 
 /// What an attribute holds.
-#[derive(Drop)]
+#[derive(Drop, PartialEq, Eq)]
 pub enum Meta<E> {
     /// A path alone: `inline`.
     Path(Path<E>),
@@ -39,7 +39,7 @@ pub enum Meta<E> {
 }
 
 /// A path and a group of tokens: `derive(Clone)`.
-#[derive(Drop)]
+#[derive(Drop, PartialEq, Eq)]
 pub struct MetaList<E> {
     /// What it names.
     pub path: Path<E>,
@@ -50,7 +50,7 @@ pub struct MetaList<E> {
 }
 
 /// A path and an expression: `doc = "text"`.
-#[derive(Drop)]
+#[derive(Drop, PartialEq, Eq)]
 pub struct MetaNameValue<E> {
     /// What it names.
     pub path: Path<E>,

@@ -8,7 +8,7 @@ use syn_leaf::lit::LitStr;
 use syn_lists::Punctuated;
 
 /// A lifetime that is declared, with its bounds: `'a: 'b + 'c`.
-#[derive(Drop)]
+#[derive(Drop, PartialEq, Eq)]
 pub struct LifetimeParam<E> {
     /// The attributes in front of it.
     pub attrs: Vec<Attribute<E>>,
@@ -21,7 +21,7 @@ pub struct LifetimeParam<E> {
 }
 
 /// Lifetimes that are bound: `for<'a, 'b>`.
-#[derive(Drop)]
+#[derive(Drop, PartialEq, Eq)]
 pub struct BoundLifetimes<E> {
     /// `for`
     pub for_token: token::For,
@@ -34,7 +34,7 @@ pub struct BoundLifetimes<E> {
 }
 
 /// A bound: a trait, or a lifetime.
-#[derive(Drop)]
+#[derive(Drop, PartialEq, Eq)]
 pub enum TypeParamBound<E> {
     /// A trait: `?Sized` or `for<'a> Fn(&'a T)`.
     Trait(TraitBound<E>),
@@ -43,7 +43,7 @@ pub enum TypeParamBound<E> {
 }
 
 /// A trait as a bound.
-#[derive(Drop)]
+#[derive(Drop, PartialEq, Eq)]
 pub struct TraitBound<E> {
     /// Whether a `?` stands in front.
     pub modifier: TraitBoundModifier,

@@ -5,6 +5,7 @@
 //!
 //! - `convert` (private): structs as the enums that hold them.
 //! - `variants` (private): structs that are taken out of them.
+//! - `copies` (private): copies of all these.
 //! - `attribute`: attributes and what they hold.
 //! - `mac`: calls of macros.
 //! - `path`: paths, their segments and arguments.
@@ -18,6 +19,7 @@ mod abi;
 pub mod attribute;
 pub mod bound;
 mod convert;
+mod copies;
 pub mod mac;
 mod parse;
 pub mod path;

@@ -16,7 +16,7 @@ pub enum MacroDelimiter {
 }
 
 /// A call of a macro: `println!("{}", x)`.
-#[derive(Drop)]
+#[derive(Drop, PartialEq, Eq)]
 pub struct Macro<E> {
     /// The macro's path.
     pub path: Path<E>,

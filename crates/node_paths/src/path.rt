@@ -9,7 +9,7 @@ use syn_kinds::token;
 use syn_lists::Punctuated;
 
 /// A path: `std::collections::HashMap<K, V>`.
-#[derive(Drop)]
+#[derive(Drop, PartialEq, Eq)]
 pub struct Path<E> {
     /// `::` in front, if it is there.
     pub leading_colon: Option<token::PathSep>,
@@ -18,7 +18,7 @@ pub struct Path<E> {
 }
 
 /// A segment of a path: a name and its arguments.
-#[derive(Drop)]
+#[derive(Drop, PartialEq, Eq)]
 pub struct PathSegment<E> {
     /// The name.
     pub ident: Ident,
@@ -27,7 +27,7 @@ pub struct PathSegment<E> {
 }
 
 /// The arguments of a path's segment.
-#[derive(Drop)]
+#[derive(Drop, PartialEq, Eq)]
 pub enum PathArguments<E> {
     /// None.
     None,
@@ -38,7 +38,7 @@ pub enum PathArguments<E> {
 }
 
 /// Arguments in angle brackets: `<'a, T>`, or `::<u8>` behind a name in an expression.
-#[derive(Drop)]
+#[derive(Drop, PartialEq, Eq)]
 pub struct AngleBracketedGenericArguments<E> {
     /// `::` in front, if it is there.
     pub colon2_token: Option<token::PathSep>,
@@ -51,7 +51,7 @@ pub struct AngleBracketedGenericArguments<E> {
 }
 
 /// An argument in angle brackets.
-#[derive(Drop)]
+#[derive(Drop, PartialEq, Eq)]
 pub enum GenericArgument<E> {
     /// A lifetime: `'a`.
     Lifetime(Lifetime),
@@ -64,7 +64,7 @@ pub enum GenericArgument<E> {
 }
 
 /// An associated type that is set: `Item = u8`.
-#[derive(Drop)]
+#[derive(Drop, PartialEq, Eq)]
 pub struct AssocType<E> {
     /// The associated type's name.
     pub ident: Ident,
@@ -75,7 +75,7 @@ pub struct AssocType<E> {
 }
 
 /// Arguments in parentheses: `(A, B) -> C`.
-#[derive(Drop)]
+#[derive(Drop, PartialEq, Eq)]
 pub struct ParenthesizedGenericArguments<E> {
     /// `( )`
     pub paren_token: token::Paren,
@@ -86,7 +86,7 @@ pub struct ParenthesizedGenericArguments<E> {
 }
 
 /// What a function, a closure or a function pointer returns.
-#[derive(Drop)]
+#[derive(Drop, PartialEq, Eq)]
 pub enum ReturnType<E> {
     /// Nothing is written: `()`, or for a closure what its body is.
     Default,
@@ -104,7 +104,7 @@ impl<E> Default for ReturnType<E> {
 }
 
 /// The front of a qualified path: `<T as Iterator>` of `<T as Iterator>::Item`.
-#[derive(Drop)]
+#[derive(Drop, PartialEq, Eq)]
 pub struct QSelf<E> {
     /// `<`
     pub lt_token: token::Lt,

@@ -8,7 +8,7 @@ use syn_leaf::member::Member;
 use syn_lists::Punctuated;
 
 /// The fields of a struct: `Point { x, y: 0, .. }`.
-#[derive(Drop)]
+#[derive(Drop, PartialEq, Eq)]
 pub struct PatStruct<E> {
     /// The attributes in front of it.
     pub attrs: Vec<Attribute<E>>,
@@ -25,7 +25,7 @@ pub struct PatStruct<E> {
 }
 
 /// A field of a struct with its pattern: `x: 0`, or `ref mut x` alone.
-#[derive(Drop)]
+#[derive(Drop, PartialEq, Eq)]
 pub struct FieldPat<E> {
     /// The attributes in front of it.
     pub attrs: Vec<Attribute<E>>,
@@ -38,7 +38,7 @@ pub struct FieldPat<E> {
 }
 
 /// The fields of a struct without names: `Some(x)`.
-#[derive(Drop)]
+#[derive(Drop, PartialEq, Eq)]
 pub struct PatTupleStruct<E> {
     /// The attributes in front of it.
     pub attrs: Vec<Attribute<E>>,

@@ -9,7 +9,7 @@ use syn_leaf::operators::RangeLimits;
 use syn_lists::Punctuated;
 
 /// A name that is bound: `ref mut x @ 1..=5`.
-#[derive(Drop)]
+#[derive(Drop, PartialEq, Eq)]
 pub struct PatIdent<E> {
     /// The attributes in front of it.
     pub attrs: Vec<Attribute<E>>,
@@ -24,7 +24,7 @@ pub struct PatIdent<E> {
 }
 
 /// A literal, perhaps behind a minus: `-1`.
-#[derive(Drop)]
+#[derive(Drop, PartialEq, Eq)]
 pub struct PatLit<E> {
     /// The attributes in front of it.
     pub attrs: Vec<Attribute<E>>,
@@ -35,7 +35,7 @@ pub struct PatLit<E> {
 }
 
 /// Several patterns of which one matches: `A | B`.
-#[derive(Drop)]
+#[derive(Drop, PartialEq, Eq)]
 pub struct PatOr<E> {
     /// The attributes in front of it.
     pub attrs: Vec<Attribute<E>>,
@@ -46,7 +46,7 @@ pub struct PatOr<E> {
 }
 
 /// A pattern in parentheses: `(A | B)`.
-#[derive(Drop)]
+#[derive(Drop, PartialEq, Eq)]
 pub struct PatParen<E> {
     /// The attributes in front of it.
     pub attrs: Vec<Attribute<E>>,
@@ -57,7 +57,7 @@ pub struct PatParen<E> {
 }
 
 /// A path as a pattern: `Color::Red` or `<T as Limit>::MAX`.
-#[derive(Drop)]
+#[derive(Drop, PartialEq, Eq)]
 pub struct PatPath<E> {
     /// The attributes in front of it.
     pub attrs: Vec<Attribute<E>>,
@@ -68,7 +68,7 @@ pub struct PatPath<E> {
 }
 
 /// A range: `1..=5`, `1..` or `..=5`.
-#[derive(Drop)]
+#[derive(Drop, PartialEq, Eq)]
 pub struct PatRange<E> {
     /// The attributes in front of it.
     pub attrs: Vec<Attribute<E>>,
@@ -81,7 +81,7 @@ pub struct PatRange<E> {
 }
 
 /// What a reference refers to: `&mut x`.
-#[derive(Drop)]
+#[derive(Drop, PartialEq, Eq)]
 pub struct PatReference<E> {
     /// The attributes in front of it.
     pub attrs: Vec<Attribute<E>>,
@@ -94,7 +94,7 @@ pub struct PatReference<E> {
 }
 
 /// All that is left: `..`.
-#[derive(Drop)]
+#[derive(Drop, PartialEq, Eq)]
 pub struct PatRest<E> {
     /// The attributes in front of it.
     pub attrs: Vec<Attribute<E>>,
@@ -103,7 +103,7 @@ pub struct PatRest<E> {
 }
 
 /// The elements of a slice: `[a, b, ..]`.
-#[derive(Drop)]
+#[derive(Drop, PartialEq, Eq)]
 pub struct PatSlice<E> {
     /// The attributes in front of it.
     pub attrs: Vec<Attribute<E>>,
@@ -114,7 +114,7 @@ pub struct PatSlice<E> {
 }
 
 /// The fields of a tuple: `(a, b)`.
-#[derive(Drop)]
+#[derive(Drop, PartialEq, Eq)]
 pub struct PatTuple<E> {
     /// The attributes in front of it.
     pub attrs: Vec<Attribute<E>>,
@@ -125,7 +125,7 @@ pub struct PatTuple<E> {
 }
 
 /// A pattern with its type: `x: u8`.
-#[derive(Drop)]
+#[derive(Drop, PartialEq, Eq)]
 pub struct PatType<E> {
     /// The attributes in front of it.
     pub attrs: Vec<Attribute<E>>,
@@ -138,7 +138,7 @@ pub struct PatType<E> {
 }
 
 /// Anything: `_`.
-#[derive(Drop)]
+#[derive(Drop, PartialEq, Eq)]
 pub struct PatWild<E> {
     /// The attributes in front of it.
     pub attrs: Vec<Attribute<E>>,

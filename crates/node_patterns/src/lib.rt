@@ -3,6 +3,7 @@
 //! A pattern inside a pattern, and the type behind one, is an `E`, which holds it.
 //!
 //! - `convert` (private): structs as the enums that hold them.
+//! - `copies` (private): copies of all these.
 //! - `kinds`: each kind of pattern.
 //! - `fields`: patterns that take structs apart.
 //! - `readers`: patterns read from a stream, with and without `|`.
@@ -11,6 +12,7 @@
 #![tactic(auto)]
 
 mod convert;
+mod copies;
 pub mod fields;
 pub mod kinds;
 pub mod readers;
@@ -24,7 +26,7 @@ pub use kinds::{
 };
 
 /// A pattern.
-#[derive(Drop)]
+#[derive(Drop, PartialEq, Eq)]
 pub enum Pat<E> {
     /// A name that is bound: `ref mut x @ 1..=5`.
     Ident(PatIdent<E>),

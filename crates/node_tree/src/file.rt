@@ -6,7 +6,7 @@ use node_items::file::Frontmatter;
 use node_paths::attribute::Attribute;
 
 /// A file.
-#[derive(Drop)]
+#[derive(Drop, PartialEq, Eq)]
 pub struct File {
     /// The first line, if it begins with `#!` and no `[` stands behind that: all of it but its end.
     pub shebang: Option<String>,

@@ -12,6 +12,7 @@ use proc_macro2::tree::TokenStream;
 
 /// An item.
 #[cycle(tree)]
+#[derive(PartialEq, Eq)]
 pub enum Item {
     /// A constant: `const MAX: u16 = 65535;`.
     Const(ItemConst<Node>),

@@ -13,6 +13,7 @@ use std::alloc::{AllocError, Global};
 
 /// What stands in an expression, a type, a pattern or an item, in a box of its own.
 #[cycle(tree)]
+#[derive(PartialEq, Eq)]
 pub enum Node {
     /// An expression.
     Expr(Box<Expr<Node>>),

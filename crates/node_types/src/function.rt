@@ -8,7 +8,7 @@ use syn_kinds::token;
 use syn_lists::Punctuated;
 
 /// A function pointer: `fn(usize) -> bool`.
-#[derive(Drop)]
+#[derive(Drop, PartialEq, Eq)]
 pub struct TypeFnPtr<E> {
     /// The lifetimes that it binds, if `for<..>` stands in front.
     pub lifetimes: Option<BoundLifetimes<E>>,
@@ -27,7 +27,7 @@ pub struct TypeFnPtr<E> {
 }
 
 /// A parameter of a function pointer: `x: usize`, or a type alone.
-#[derive(Drop)]
+#[derive(Drop, PartialEq, Eq)]
 pub struct FnPtrArg<E> {
     /// The attributes in front of it.
     pub attrs: Vec<Attribute<E>>,

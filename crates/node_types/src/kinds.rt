@@ -7,7 +7,7 @@ use syn_kinds::token;
 use syn_lists::Punctuated;
 
 /// An array: `[T; 4]`.
-#[derive(Drop)]
+#[derive(Drop, PartialEq, Eq)]
 pub struct TypeArray<E> {
     /// `[ ]`
     pub bracket_token: token::Bracket,
@@ -20,7 +20,7 @@ pub struct TypeArray<E> {
 }
 
 /// Some type with bounds: `impl Iterator + 'a`.
-#[derive(Drop)]
+#[derive(Drop, PartialEq, Eq)]
 pub struct TypeImplTrait<E> {
     /// `impl`
     pub impl_token: token::Impl,
@@ -43,7 +43,7 @@ pub struct TypeNever {
 }
 
 /// A type in parentheses: `(T)`.
-#[derive(Drop)]
+#[derive(Drop, PartialEq, Eq)]
 pub struct TypeParen<E> {
     /// `( )`
     pub paren_token: token::Paren,
@@ -52,7 +52,7 @@ pub struct TypeParen<E> {
 }
 
 /// A path as a type: `Vec<T>` or `<T as Iterator>::Item`.
-#[derive(Drop)]
+#[derive(Drop, PartialEq, Eq)]
 pub struct TypePath<E> {
     /// The front of a qualified path.
     pub qself: Option<QSelf<E>>,
@@ -61,7 +61,7 @@ pub struct TypePath<E> {
 }
 
 /// A raw pointer: `*const T` or `*mut T`.
-#[derive(Drop)]
+#[derive(Drop, PartialEq, Eq)]
 pub struct TypePtr<E> {
     /// `*`
     pub star_token: token::Star,
@@ -81,7 +81,7 @@ pub enum PointerMutability {
 }
 
 /// A reference: `&'a mut T`.
-#[derive(Drop)]
+#[derive(Drop, PartialEq, Eq)]
 pub struct TypeReference<E> {
     /// `&`
     pub and_token: token::And,
@@ -94,7 +94,7 @@ pub struct TypeReference<E> {
 }
 
 /// A slice: `[T]`.
-#[derive(Drop)]
+#[derive(Drop, PartialEq, Eq)]
 pub struct TypeSlice<E> {
     /// `[ ]`
     pub bracket_token: token::Bracket,
@@ -103,7 +103,7 @@ pub struct TypeSlice<E> {
 }
 
 /// A trait object: `dyn Fn() + 'a`.
-#[derive(Drop)]
+#[derive(Drop, PartialEq, Eq)]
 pub struct TypeTraitObject<E> {
     /// `dyn`
     pub dyn_token: token::Dyn,
@@ -112,7 +112,7 @@ pub struct TypeTraitObject<E> {
 }
 
 /// A tuple: `(A, B)`.
-#[derive(Drop)]
+#[derive(Drop, PartialEq, Eq)]
 pub struct TypeTuple<E> {
     /// `( )`
     pub paren_token: token::Paren,

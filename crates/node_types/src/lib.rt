@@ -3,6 +3,7 @@
 //! A type or an expression inside a type is an `E`, which holds it.
 //!
 //! - `convert` (private): structs as the enums that hold them.
+//! - `copies` (private): copies of all these.
 //! - `kinds`: each kind of type.
 //! - `function`: function pointers.
 //! - `variants` (private): structs that are taken out of them.
@@ -11,6 +12,7 @@
 #![tactic(auto)]
 
 mod convert;
+mod copies;
 pub mod function;
 pub mod kinds;
 mod parse;
@@ -24,7 +26,7 @@ pub use kinds::{
 };
 
 /// A type.
-#[derive(Drop)]
+#[derive(Drop, PartialEq, Eq)]
 pub enum Type<E> {
     /// An array: `[T; 4]`.
     Array(TypeArray<E>),

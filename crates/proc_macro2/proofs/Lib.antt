@@ -26,4 +26,5 @@ pub mod Shebangs
 pub mod Lies
 pub mod Held
 pub mod Marks
+pub mod Compared
 mod Examples

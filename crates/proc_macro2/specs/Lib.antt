@@ -1,6 +1,8 @@
 pub mod Token
 pub mod Leaf
 pub mod Groups
+pub mod Same
+pub mod Decided
 pub mod Flat
 pub mod Stream
 pub mod Trees

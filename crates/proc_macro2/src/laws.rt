@@ -10,6 +10,7 @@ ghost use Rattle.proc_macro2.specs.Spacing.{IsWellSpaced, follows_mark, is_visib
 ghost use Rattle.proc_macro2.specs.Stands.{all_stand};
 ghost use Rattle.proc_macro2.specs.Token.{Closes, Delimiter, Joint, Opens, Punct, Spanned, Token, plain};
 ghost use Rattle.proc_macro2.specs.declared.tree.TokenTree.{TokenTree};
+ghost use Rattle.std.specs.Cmp.{IsEquivalence};
 ghost use Rattle.std.specs.List.{flat_map};
 ghost use Rattle.std.specs.Prelude.{[], ◌++◌, ◌∷◌, ◌≡◌, ◌≢◌, ◌↔◌, IfOk, IsTrue, List, OnOk, map, not, ℕ};
 
@@ -76,6 +77,12 @@ pub fn well_spaced_in_group()
 /// Two delimiters are equal exactly if they are the same.
 pub fn equality_is_sameness()
     ensures { (a b : Delimiter) → IsTrue (⟦<Delimiter as PartialEq>⟧.eq a b) ↔ (a ≡ b) }
+{}
+
+/// Two streams are equal exactly if they have the same tokens, wherever these stand.
+pub fn equal_streams(a: &TokenStream, b: &TokenStream)
+    ensures by_tokens { IsTrue (⟦<TokenStream as PartialEq>⟧.eq a.now b.now) ↔ (plain a.now ≡ plain b.now) }
+    ensures equivalence { IsEquivalence ⟦<TokenStream as PartialEq>⟧.eq }
 {}
 
 /// A changed copy leaves the other: trees are added to a copy of a stream, which stays as it was.

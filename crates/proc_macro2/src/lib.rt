@@ -9,6 +9,7 @@
 //! - `stream`: building streams.
 //! - `into_iter`: taking streams apart.
 //! - `copies`: copies of streams and trees.
+//! - `equal` (private): equality of streams.
 //! - `parse`: streams of texts.
 //! - `file`: streams of files, whose first line may be a shebang.
 //! - `put`, `doc` (private): the tokens of one piece.
@@ -30,6 +31,7 @@ pub mod copies;
 mod debug;
 pub mod delimiter;
 mod doc;
+mod equal;
 pub mod file;
 pub mod forest_laws;
 pub mod group;

@@ -2,9 +2,10 @@ use Rattle.std.proofs.Common.{◌≡◌, ◌∙◌, List, length, arith, sym, tr
 use Rattle.std.specs.Prelude.{◌⊎◌}
 use Rattle.std.proofs.lemmas.Bool.{eq-eqb, eqb-true}
 use Rattle.proc_macro2.specs.declared.tree.TokenTree.{TokenTree}
-use Rattle.stream_equal.proofs.Trees.{as_many, ended, next_same, part_length, same_taken}
-use Rattle.stream_equal.proofs.+comparing.Goals as goal
-use Rattle.stream_equal.proofs.+comparing.Goals.{same_trees-then-loop-at-test+else-at-b, same_trees-else-loop-at-test}
+use Rattle.proc_macro2.proofs.Compared.{as_many, ended, next_same, part_length, same_taken}
+use Rattle.proc_macro2.proofs.equal.+comparing.Goals as goal
+use Rattle.proc_macro2.proofs.equal.+comparing.Goals.{same_trees-then-loop-at-test+else-at-b}
+use Rattle.proc_macro2.proofs.equal.+comparing.Goals.{same_trees-else-loop-at-test}
 
 pub same_trees-same_tree-requires : goal.same_trees-same_tree-requires
 same_trees-same_tree-requires t c = (

@@ -13,7 +13,7 @@ use Rattle.proc_macro2.specs.Flat.{spanned, tree_tokens, trees_tokens}
 use Rattle.proc_macro2.specs.Groups.{groups_behind, groups_open}
 use Rattle.proc_macro2.specs.Token.{Token, Closes, Opens, Spanned, plain}
 use Rattle.proc_macro2.proofs.GroupLemmas.{after, none_some, some_same}
-use Rattle.stream_equal.specs.Matched.{IsMatchedTree}
+use Rattle.proc_macro2.specs.Same.{IsMatchedTree}
 
 -- where tokens end that leave no group open, before a mark that closes one
 ends_alike : (ds : List Delimiter) (i j : List Spanned) (b c : List Token) (d e : Delimiter)

@@ -1,24 +1,40 @@
 //! Streams compared by their tokens, wherever these stand.
-#![tactic(auto)]
 
+ghost use Rattle.proc_macro2.specs.Decided.{equivalence};
 ghost use Rattle.proc_macro2.specs.Flat.{tree_tokens, trees_tokens};
+ghost use Rattle.proc_macro2.specs.Same.{IsMatchedTree, same_tokens};
 ghost use Rattle.proc_macro2.specs.Token.{plain};
 ghost use Rattle.rust_leaf.specs.Leaf.{ident_text, literal_text, punct_char, punct_spacing};
+ghost use Rattle.std.specs.Cmp.{partial_equiv_from_equiv};
 ghost use Rattle.std.specs.Prelude.{◌≡◌, ◌↔◌, IsTrue};
-ghost use Rattle.stream_equal.specs.Matched.{IsMatchedTree};
 
-use proc_macro2::laws::each_stream;
-use proc_macro2::tree::{TokenStream, TokenTree};
+use crate::tree::{TokenStream, TokenTree};
 use rust_leaf::ident::Ident;
 use rust_leaf::literal::Literal;
 use rust_leaf::punct::Punct;
+
+/// Two streams are equal if they have the same tokens, wherever these stand. Marks are the same if they are spaced
+/// alike. It takes no memory; a group in a group takes a call.
+impl PartialEq for TokenStream {
+    ghost eq = { same_tokens };
+
+    ghost laws = { partial_equiv_from_equiv equivalence };
+
+    fn eq(&self, other: &TokenStream) -> bool {
+        same_stream(self, other)
+    }
+}
+
+impl Eq for TokenStream {
+    ghost laws = { equivalence };
+}
 
 // Each group in the group is closed by its own mark.
 fn known(tree: &TokenTree)
     ensures { IsMatchedTree tree.now }
 {
     if let TokenTree::Group(group) = tree {
-        each_stream(group.stream_ref());
+        group.stream.known();
     }
 }
 
@@ -51,9 +67,9 @@ fn same_tree(a: &TokenTree, b: &TokenTree) -> bool
     match a {
         TokenTree::Group(a) => match b {
             TokenTree::Group(b) => {
-                each_stream(a.stream_ref());
-                each_stream(b.stream_ref());
-                a.delimiter() == b.delimiter() && same_tokens(a.stream_ref(), b.stream_ref())
+                a.stream.known();
+                b.stream.known();
+                a.delimiter() == b.delimiter() && same_stream(&a.stream, &b.stream)
             }
             TokenTree::Ident(_) | TokenTree::Punct(_) | TokenTree::Literal(_) => false,
         },
@@ -90,10 +106,9 @@ fn same_trees(a: &[TokenTree], b: &[TokenTree]) -> bool
     a.len() == b.len()
 }
 
-/// Whether both streams have the same tokens, wherever they stand. Punctuation is the same if it is spaced alike. It
-/// takes no memory; a group in a group takes a call.
+// Both streams have the same tokens.
 #[cycle(comparing)]
-pub fn same_tokens(a: &TokenStream, b: &TokenStream) -> bool
+fn same_stream(a: &TokenStream, b: &TokenStream) -> bool
     ensures { IsTrue result ↔ (plain a.now ≡ plain b.now) }
 {
     same_trees(a.trees(), b.trees())

@@ -1,7 +1,7 @@
 use Rattle.std.proofs.Common.{sym, ◌∙◌}
 use Rattle.rust_leaf.proofs.Texts.{bytes_eq-same, leaf_utf8}
 use Rattle.rust_leaf.specs.Leaf.{ident_bytes}
-use Rattle.stream_equal.proofs.same_word.Goals as goal
+use Rattle.proc_macro2.proofs.equal.same_word.Goals as goal
 
 pub returns : goal.returns
 returns c =

@@ -1,11 +1,11 @@
 use Rattle.std.proofs.Common.{◌≡◌, ◌≤◌, ◌+◌, ◌*◌, ◌-◌, length, take}
 use Rattle.proc_macro2.specs.Flat.{tree_tokens, trees_tokens}
 use Rattle.proc_macro2.specs.Token.{plain}
-use Rattle.stream_equal.proofs.+comparing.Given as goal
+use Rattle.proc_macro2.proofs.equal.+comparing.Given as goal
 
 -- a tree has no more tokens than the trees among which it stands, and a group's stream fewer than the group
-abbrev pub decreases-same_tokens : goal.decreases-same_tokens
-decreases-same_tokens l = 3 * length l.a.now + 3
+abbrev pub decreases-same_stream : goal.decreases-same_stream
+decreases-same_stream l = 3 * length l.a.now + 3
 
 abbrev pub decreases-same_trees : goal.decreases-same_trees
 decreases-same_trees l = 3 * length (trees_tokens l.a.now) + 2

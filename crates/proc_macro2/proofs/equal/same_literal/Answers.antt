@@ -1,6 +1,6 @@
 use Rattle.std.proofs.Common.{sym, ◌∙◌}
 use Rattle.rust_leaf.proofs.Texts.{bytes_eq-same}
-use Rattle.stream_equal.proofs.same_literal.Goals as goal
+use Rattle.proc_macro2.proofs.equal.same_literal.Goals as goal
 
 pub returns : goal.returns
 returns c =
