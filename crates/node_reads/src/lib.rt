@@ -6,7 +6,7 @@
 //! - `wanted`: what is wanted of a tree, and what is made of it.
 //! - `grown`: what is asked of the type that closes the recursion, and what makes the nodes in a tree by that.
 //! - `paths`, `types`, `generics`, `expressions`, `items`, `members` (private): of each type its kind and its maker.
-//! - `named` (private): the same of what is read by a name of its own.
+//! - `imports` (private): of what is imported; `named` (private): of what is read by a name of its own.
 #![tactic(auto)]
 
 ghost use Rattle.node_traits.specs.Reads.{NoneStands, ReadAs};
@@ -14,10 +14,10 @@ ghost use Rattle.node_traits.specs.Reads.{NoneStands, ReadAs};
 pub mod below;
 pub mod by;
 pub mod closed;
-mod derived;
 mod expressions;
 mod generics;
 pub mod grown;
+mod imports;
 mod items;
 mod members;
 mod named;

@@ -18,10 +18,7 @@ impl TryFrom<Item> for ItemConst<Node> {
 
     /// Takes it out of that variant, and hands any other one back.
     fn try_from(whole: Item) -> Result<ItemConst<Node>, Item> {
-        match whole {
-            Item::Const(form) => Ok(form),
-            other => Err(other),
-        }
+        whole.into_const()
     }
 }
 
@@ -38,10 +35,7 @@ impl TryFrom<Item> for ItemEnum<Node> {
 
     /// Takes it out of that variant, and hands any other one back.
     fn try_from(whole: Item) -> Result<ItemEnum<Node>, Item> {
-        match whole {
-            Item::Enum(form) => Ok(form),
-            other => Err(other),
-        }
+        whole.into_enum()
     }
 }
 
@@ -58,10 +52,7 @@ impl TryFrom<Item> for ItemExternCrate<Node> {
 
     /// Takes it out of that variant, and hands any other one back.
     fn try_from(whole: Item) -> Result<ItemExternCrate<Node>, Item> {
-        match whole {
-            Item::ExternCrate(form) => Ok(form),
-            other => Err(other),
-        }
+        whole.into_extern_crate()
     }
 }
 
@@ -78,10 +69,7 @@ impl TryFrom<Item> for ItemFn<Node> {
 
     /// Takes it out of that variant, and hands any other one back.
     fn try_from(whole: Item) -> Result<ItemFn<Node>, Item> {
-        match whole {
-            Item::Fn(form) => Ok(form),
-            other => Err(other),
-        }
+        whole.into_fn()
     }
 }
 
@@ -98,10 +86,7 @@ impl TryFrom<Item> for ItemForeignMod<Node> {
 
     /// Takes it out of that variant, and hands any other one back.
     fn try_from(whole: Item) -> Result<ItemForeignMod<Node>, Item> {
-        match whole {
-            Item::ForeignMod(form) => Ok(form),
-            other => Err(other),
-        }
+        whole.into_foreign_mod()
     }
 }
 
@@ -118,10 +103,7 @@ impl TryFrom<Item> for ItemImpl<Node> {
 
     /// Takes it out of that variant, and hands any other one back.
     fn try_from(whole: Item) -> Result<ItemImpl<Node>, Item> {
-        match whole {
-            Item::Impl(form) => Ok(form),
-            other => Err(other),
-        }
+        whole.into_impl()
     }
 }
 
@@ -138,10 +120,7 @@ impl TryFrom<Item> for ItemMacro<Node> {
 
     /// Takes it out of that variant, and hands any other one back.
     fn try_from(whole: Item) -> Result<ItemMacro<Node>, Item> {
-        match whole {
-            Item::Macro(form) => Ok(form),
-            other => Err(other),
-        }
+        whole.into_macro()
     }
 }
 
@@ -158,10 +137,7 @@ impl TryFrom<Item> for ItemMod<Node> {
 
     /// Takes it out of that variant, and hands any other one back.
     fn try_from(whole: Item) -> Result<ItemMod<Node>, Item> {
-        match whole {
-            Item::Mod(form) => Ok(form),
-            other => Err(other),
-        }
+        whole.into_mod()
     }
 }
 
@@ -178,10 +154,7 @@ impl TryFrom<Item> for ItemStatic<Node> {
 
     /// Takes it out of that variant, and hands any other one back.
     fn try_from(whole: Item) -> Result<ItemStatic<Node>, Item> {
-        match whole {
-            Item::Static(form) => Ok(form),
-            other => Err(other),
-        }
+        whole.into_static()
     }
 }
 
@@ -198,10 +171,7 @@ impl TryFrom<Item> for ItemStruct<Node> {
 
     /// Takes it out of that variant, and hands any other one back.
     fn try_from(whole: Item) -> Result<ItemStruct<Node>, Item> {
-        match whole {
-            Item::Struct(form) => Ok(form),
-            other => Err(other),
-        }
+        whole.into_struct()
     }
 }
 
@@ -218,10 +188,7 @@ impl TryFrom<Item> for ItemTrait<Node> {
 
     /// Takes it out of that variant, and hands any other one back.
     fn try_from(whole: Item) -> Result<ItemTrait<Node>, Item> {
-        match whole {
-            Item::Trait(form) => Ok(form),
-            other => Err(other),
-        }
+        whole.into_trait()
     }
 }
 
@@ -238,10 +205,7 @@ impl TryFrom<Item> for ItemTraitAlias<Node> {
 
     /// Takes it out of that variant, and hands any other one back.
     fn try_from(whole: Item) -> Result<ItemTraitAlias<Node>, Item> {
-        match whole {
-            Item::TraitAlias(form) => Ok(form),
-            other => Err(other),
-        }
+        whole.into_trait_alias()
     }
 }
 
@@ -258,10 +222,7 @@ impl TryFrom<Item> for ItemType<Node> {
 
     /// Takes it out of that variant, and hands any other one back.
     fn try_from(whole: Item) -> Result<ItemType<Node>, Item> {
-        match whole {
-            Item::Type(form) => Ok(form),
-            other => Err(other),
-        }
+        whole.into_type()
     }
 }
 
@@ -278,10 +239,7 @@ impl TryFrom<Item> for ItemUnion<Node> {
 
     /// Takes it out of that variant, and hands any other one back.
     fn try_from(whole: Item) -> Result<ItemUnion<Node>, Item> {
-        match whole {
-            Item::Union(form) => Ok(form),
-            other => Err(other),
-        }
+        whole.into_union()
     }
 }
 
@@ -298,10 +256,7 @@ impl TryFrom<Item> for ItemUse<Node> {
 
     /// Takes it out of that variant, and hands any other one back.
     fn try_from(whole: Item) -> Result<ItemUse<Node>, Item> {
-        match whole {
-            Item::Use(form) => Ok(form),
-            other => Err(other),
-        }
+        whole.into_use()
     }
 }
 

@@ -3,7 +3,6 @@
 use node_tree::File;
 use proc_macro2::{SourceMap, TokenStream};
 use std::alloc::{AllocError, Global};
-use stream_equal::same_tokens;
 use syn_error::{ParseFault, TextFault, ToTokens};
 use syn_input::parse2;
 
@@ -66,5 +65,5 @@ pub fn normal(alloc: Global, file: &File) -> Result<File, ParseFault> {
 ///
 /// Where there is no memory for these.
 pub fn same_program(alloc: Global, a: &File, b: &File) -> Result<bool, AllocError> {
-    Ok(same_tokens(&tokens(alloc, a)?, &tokens(alloc, b)?))
+    Ok(tokens(alloc, a)? == tokens(alloc, b)?)
 }
