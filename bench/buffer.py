@@ -4,16 +4,16 @@ a table: for each task the least processor time of several runs, less that of a 
 memory for each byte of the text.
 
 Usage: bench/buffer.py [RUNS]. It builds the programs first, which proves what isn't proved yet, and fetches Debian's
-packages rust-src, librust-proc-macro2-dev and librust-syn-dev where they are missing. The peer is built with plain
-rustc, and nothing of it is kept."""
+packages rust-src, librust-proc-macro2-dev, librust-syn-dev and librust-quote-dev where they are missing. The peer is
+built with plain rustc, and nothing of it is kept."""
 
-import glob
 import os
 import subprocess
 import sys
 import tempfile
 
-from shapes import HERE, REGISTRY, TOP, Runner, fetch, library, measured
+from peers import HERE, SYN, TOP, syn_peer
+from shapes import Runner, fetch, library, measured
 
 # what the programs are told to do: how often the buffer is walked, and whether kinds are looked for
 TASKS = [
@@ -23,31 +23,13 @@ TASKS = [
     ("made, and walked ten times", ["10"]),
     ("made, and walked ten times with peeks of kinds", ["10", "kinds"]),
 ]
-PEERS = {"peer with spans": ["--cfg", "span_locations"], "peer without": []}
 
 
 def built(work):
     """The programs: this buffer, and the peer with and without span locations."""
-    sources = {name: glob.glob(f"{REGISTRY}/{name}-[0-9]*")[0] for name in ["unicode-ident", "proc-macro2", "syn"]}
-    features = [part for name in ["parsing", "full"] for part in ["--cfg", f'feature="{name}"']]
     programs = {"this": f"{TOP}/crates/bench_buffer/out/bench_buffer"}
-    for name, flags in PEERS.items():
-        out = os.path.join(work, name.replace(" ", "-"))
-        os.mkdir(out)
-        rustc = ["rustc", "-O", "--out-dir", out, "-L", out, "--cap-lints", "allow"]
-        crate = rustc + ["--edition", "2018", "--crate-type", "rlib"]
-        crates = ["unicode_ident", "proc_macro2", "syn"]
-        extern = {crate: ["--extern", f"{crate}={out}/lib{crate}.rlib"] for crate in crates}
-        steps = [
-            ("unicode_ident", sources["unicode-ident"], []),
-            ("proc_macro2", sources["proc-macro2"], extern["unicode_ident"] + flags),
-            ("syn", sources["syn"], extern["unicode_ident"] + extern["proc_macro2"] + features),
-        ]
-        for step, folder, more in steps:
-            subprocess.run(crate + ["--crate-name", step, *more, folder + "/src/lib.rs"], check=True)
-        with_syn = rustc + ["--edition", "2021", *extern["proc_macro2"], *extern["syn"]]
-        subprocess.run(with_syn + ["--crate-name", "buffer_peer", HERE + "/buffer_peer.rs"], check=True)
-        programs[name] = out + "/buffer_peer"
+    for name, flags in SYN.items():
+        programs[name] = syn_peer(os.path.join(work, name.replace(" ", "-")), flags, HERE + "/buffer_peer.rs")
     folder = f"{TOP}/crates/bench_buffer"
     subprocess.run(["rt", "run"], cwd=folder, stdin=subprocess.DEVNULL, capture_output=True, check=True)
     return programs
@@ -67,7 +49,7 @@ def same_counts(programs, path):
 
 def main():
     runs = int(sys.argv[1]) if len(sys.argv) > 1 else 5
-    fetch("librust-syn-dev")
+    fetch("librust-syn-dev", "librust-quote-dev")
     runner = Runner()
     text = library()
     with tempfile.TemporaryDirectory() as work:
@@ -79,7 +61,7 @@ def main():
         print("| Lexing aside | this | peer with spans | peer without | this/with | this/without "
               "| Bytes a byte, each |")
         print("|---|---|---|---|---|---|---|")
-        order = ["this", *PEERS]
+        order = ["this", *SYN]
         lexing, _ = measured(runner, [[programs[name]] for name in order], path, runs)
         for title, arguments in TASKS:
             commands = [[programs[name], *arguments] for name in order]

@@ -1,15 +1,16 @@
 #!/usr/bin/env python3
-"""Times `canon` beside syn, which reads the same text as a file and prints its tokens, with span locations and without
-them, all in one run. Prints tables: for each text the least processor time of several runs of each program, and its
-peak memory for each byte of the text. The first is of whole runs. The second is of an outline, for which the file is
-read whole, and a line is written for each name, beside lexing and reading alone: syn's tree is let go of. The third is
-of lexing alone. The last one has Debian's rustfmt beside them, on files of std alone, as it asks for more than that a
-text is lexed and read: on the largest and one of 0.1 MB, and on all that both take, each by itself, the sum of one run
-of each.
+"""Times `canon` beside the peers of `peers.py`, which read the same text as a file, all in one run. Prints tables: for
+each text the least processor time of several runs of `canon`, its ratio to that of each peer, and the peak memory of
+each for each byte of the text; a peer that refuses a text has none. The first is of whole runs: syn prints the tokens
+of its tree, and rust-analyzer's parser and rustc print nothing. The second is of an outline, for which the file is read
+whole, and a line is written for each name, beside lexing and reading alone: syn's tree is let go of. The third is of
+lexing alone. The last one has Debian's rustfmt beside it, on files of std alone, as it asks for more than that a text
+is lexed and read: on the largest and one of 0.1 MB, and on all that both take, each by itself, the sum of one run of
+each.
 
 Usage: bench/canon.py [RUNS [CANON LEXER]]. It builds the programs first, which proves what isn't proved yet, or takes
 those that are named, and fetches Debian's packages rust-src, librust-proc-macro2-dev, librust-syn-dev,
-librust-quote-dev and rustfmt where they are missing. The peer is built with plain rustc, and nothing of it is kept."""
+librust-quote-dev and rustfmt where they are missing. Nothing of the peers is kept."""
 
 import glob
 import os
@@ -18,10 +19,11 @@ import subprocess
 import sys
 import tempfile
 
-from shapes import HERE, REGISTRY, TOP, Runner, fetch, library, measured
+from peers import TOP, all_peers
+from shapes import Runner, fetch, library, measured, weak
 
 SIZE = 1_000_000
-PEERS = {"peer with spans": ["--cfg", "span_locations"], "peer without": []}
+WEAK = 2_000_000
 INFIX = ["+", "-", "*", "/", "%", "&", "|", "^", "<<", ">>", "&&", "||"]
 
 
@@ -153,71 +155,47 @@ def texts():
     yield "one macro with std inside", b"m!{" + library() + b"}"
 
 
-def peer_of(out, flags, source):
-    """The program of a file over Debian's syn, quote and proc-macro2, which is built with these flags, in a folder."""
-    names = ["unicode-ident", "proc-macro2", "quote", "syn"]
-    sources = {name: glob.glob(f"{REGISTRY}/{name}-[0-9]*")[0] for name in names}
-    features = [part for name in ["parsing", "printing", "full"] for part in ["--cfg", f'feature="{name}"']]
-    rustc = ["rustc", "-O", "--out-dir", out, "-L", out, "--cap-lints", "allow"]
-    crate = rustc + ["--edition", "2018", "--crate-type", "rlib"]
-    extern = {it: ["--extern", f"{it}={out}/lib{it}.rlib"] for it in ["unicode_ident", "proc_macro2", "quote", "syn"]}
-    below = extern["unicode_ident"] + extern["proc_macro2"]
-    steps = [
-        ("unicode_ident", sources["unicode-ident"], []),
-        ("proc_macro2", sources["proc-macro2"], extern["unicode_ident"] + flags),
-        ("quote", sources["quote"], extern["proc_macro2"]),
-        ("syn", sources["syn"], below + extern["quote"] + features + ["--cfg", 'feature="quote"']),
-    ]
-    for step, folder, more in steps:
-        subprocess.run(crate + ["--crate-name", step, *more, folder + "/src/lib.rs"], check=True)
-    with_syn = rustc + ["--edition", "2021", *extern["proc_macro2"], *extern["quote"], *extern["syn"]]
-    subprocess.run(with_syn + ["--crate-name", "peer", source], check=True)
-    return out + "/peer"
-
-
-def built(work, given):
-    """The programs: canon and this lexer, as they are given, and the peer with and without span locations."""
-    programs = {"canon": f"{TOP}/crates/canon_cli/out/canon_cli", "lexer": f"{TOP}/crates/bench_lexer/out/bench_lexer"}
-    programs.update(zip(["canon", "lexer"], given))
-    for peer, flags in PEERS.items():
-        out = os.path.join(work, peer.replace(" ", "-"))
-        os.mkdir(out)
-        programs[peer] = peer_of(out, flags, HERE + "/file_peer.rs")
+def built(given):
+    """This project's programs, as they are given or built here, by what they are to do."""
+    canon, lexer = given or (f"{TOP}/crates/{name}/out/{name}" for name in ("canon_cli", "bench_lexer"))
     for name in [] if given else ["canon_cli", "bench_lexer"]:
         folder = f"{TOP}/crates/{name}"
         subprocess.run(["rt", "run"], cwd=folder, stdin=subprocess.DEVNULL, capture_output=True, check=True)
-    return programs
+    return {"whole": [canon], "read": [canon, "outline"], "lex": [lexer]}
+
+
+def made_texts(commands):
+    """Each text and what it is. Of one that has parts those stand that all the commands read."""
+    whole = lambda part: all(is_read(command, part) for command in commands)
+    for what, text in texts():
+        yield what, text if isinstance(text, bytes) else b"".join(filter(whole, text))
+    yield from weak(WEAK)
 
 
 def table(runner, title, commands, made, place, runs):
-    """Each text's row."""
-    print(f"\n| {title} | MB | this | peer with spans | peer without | this/with | this/without | Bytes a byte, each |")
-    print("|---|---|---|---|---|---|---|---|")
+    """Each text's row: what the first program takes, and its ratio to each other that reads the text."""
+    ours, *peers = commands
+    print(f"\n| {title} | MB | {ours} | {' | '.join(f'/ {peer}' for peer in peers)} | Bytes a byte, each |")
+    print("|---|" + "---:|" * (len(peers) + 2) + "---|")
     for what, text in made:
         with open(place, "wb") as file:
             file.write(text)
-        (ours, spans, plain), memory = measured(runner, commands, place, runs)
+        reading = [name for name in commands if name == ours or is_read(commands[name], text)]
+        seconds, memory = measured(runner, [commands[name] for name in reading], place, runs)
+        took = dict(zip(reading, seconds))
+        ratios = [f"{took[ours] / took[peer]:.2f}" if peer in took else "refused" for peer in peers]
         each = ", ".join(f"{peak / len(text):.0f}" for peak in memory)
-        times = f"{ours:.3f} s | {spans:.3f} s | {plain:.3f} s | {ours / spans:.2f} | {ours / plain:.2f}"
-        print(f"| {what} | {len(text) / 1e6:.1f} | {times} | {each} |", flush=True)
+        print(f"| {what} | {len(text) / 1e6:.1f} | {took[ours]:.3f} s | {' | '.join(ratios)} | {each} |", flush=True)
 
 
-def beside_rustfmt(runner, programs, made, place, runs):
-    """Each text's row beside rustfmt."""
-    print("\n| Beside rustfmt | MB | this | rustfmt | this/rustfmt | Bytes a byte, each |")
-    print("|---|---|---|---|---|---|")
-    commands = [[programs["canon"]], RUSTFMT]
-    for what, text in made:
-        with open(place, "wb") as file:
-            file.write(text)
-        (ours, theirs), memory = measured(runner, commands, place, runs)
-        each = ", ".join(f"{peak / len(text):.0f}" for peak in memory)
-        times = f"{ours:.3f} s | {theirs:.3f} s | {ours / theirs:.2f}"
-        print(f"| {what} | {len(text) / 1e6:.1f} | {times} | {each} |", flush=True)
-    taken = [name for name in files_of_std()[1] if all(is_read(command, content(name)) for command in commands)]
+def beside_rustfmt(runner, canon, made, place, runs):
+    """The rows beside rustfmt, with one for all files of std that both take, each by itself."""
+    commands = {"this": canon, "rustfmt": RUSTFMT}
+    table(runner, "Beside rustfmt", commands, made, place, runs)
+    taken = [name for name in files_of_std()[1] if all(is_read(it, content(name)) for it in commands.values())]
     size = sum(os.path.getsize(name) for name in taken)
-    ours, theirs = (sum(runner.once(command, name)[0] for name in taken) for command in commands)
-    times = f"{ours:.3f} s | {theirs:.3f} s | {ours / theirs:.2f}"
+    ours, theirs = (sum(runner.once(command, name)[0] for name in taken) for command in commands.values())
+    times = f"{ours:.3f} s | {ours / theirs:.2f}"
     print(f"| {len(taken)} files of std, each by itself | {size / 1e6:.1f} | {times} | |", flush=True)
 
 
@@ -226,18 +204,15 @@ def main():
     fetch("librust-syn-dev", "librust-quote-dev", "rustfmt")
     runner = Runner()
     with tempfile.TemporaryDirectory() as work:
-        programs = built(work, sys.argv[2:])
-        both = [[programs["canon"]], [programs["peer without"]]]
-        whole = lambda part: all(is_read(command, part) for command in both)
-        made = [(what, text if isinstance(text, bytes) else b"".join(filter(whole, text))) for what, text in texts()]
+        programs = {"this": built(sys.argv[2:]), **all_peers(work)}
+        commands = lambda task: {name: tasks[task] for name, tasks in programs.items() if task in tasks}
+        made = list(made_texts(commands("whole").values()))
         place = os.path.join(work, "text")
-        commands = [[programs["canon"]]] + [[programs[peer]] for peer in PEERS]
-        table(runner, "Read, written and printed", commands, made, place, runs)
-        commands = [[programs["canon"], "outline"]] + [[programs[peer], "read"] for peer in PEERS]
-        table(runner, "An outline, and syn's reading alone", commands, made, place, runs)
-        commands = [[programs["lexer"]]] + [[programs[peer], "lex"] for peer in PEERS]
-        table(runner, "Lexed", commands, made, place, runs)
-        beside_rustfmt(runner, programs, [it for it in made if it[0].startswith(OF_STD)], place, runs)
+        table(runner, "Read, written and printed", commands("whole"), made, place, runs)
+        table(runner, "An outline, and the peers' reading alone", commands("read"), made, place, runs)
+        table(runner, "Lexed", commands("lex"), made, place, runs)
+        of_std = [it for it in made if it[0].startswith(OF_STD)]
+        beside_rustfmt(runner, programs["this"]["whole"], of_std, place, runs)
 
 
 if __name__ == "__main__":

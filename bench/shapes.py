@@ -15,9 +15,8 @@ import subprocess
 import sys
 import tempfile
 
-HERE = os.path.dirname(os.path.abspath(__file__))
-TOP = os.path.dirname(HERE)
-REGISTRY = "/usr/share/cargo/registry"
+from peers import HERE, SYN, TOP, Crates
+
 SIZE = 10_000_000
 LONG = 4 * SIZE
 
@@ -62,6 +61,21 @@ def generated():
     return "".join(parts).encode()
 
 
+def weak(size):
+    """Texts of which a program may take longer than a peer, though not of others: files of Rust, of about that size."""
+    repeated = lambda line: line * (size // len(line))
+    constant = b'const A: &str = "' + b"\\n" * 50 + b'";\n'
+    yield "short comments of a line", repeated(b"// c\n") + b"fn f(){}\n"
+    yield "comments of a line that aren't ASCII", repeated(b"// " + "é".encode() * 40 + b"\n") + b"fn f(){}\n"
+    yield "strings of escapes", repeated(constant)
+    yield "`fn f(){}` repeated", repeated(b"fn f(){}\n")
+    yield "one large function", b"fn f() {\n" + repeated(b"    let x = f(a.b, 1);\n") + b"}\n"
+    yield "one large array", b"const A: &[u8] = &[" + repeated(b"1, ") + b"];\n"
+    yield "one large struct", b"struct A {\n" + repeated(b"    a: u8,\n") + b"}\n"
+    yield "one large match", b"fn f() { match a {\n" + repeated(b"    a => b,\n") + b"} }\n"
+    yield "one function of short statements", b"fn f(){" + repeated(b"a;") + b"}\n"
+
+
 def shapes(std):
     """Each shape's name and text."""
     yield "std, joined", std
@@ -76,29 +90,19 @@ def shapes(std):
     yield "one identifier", b"i" * LONG
     yield "one number", b"7" * LONG
     yield "one doc comment", b"///" + b"d" * LONG + b"\n"
+    yield from weak(SIZE)
 
 
 def built(work):
     """The programs: this lexer, and the peer with and without span locations."""
-    ident = glob.glob(REGISTRY + "/unicode-ident-*")[0]
-    peer = glob.glob(REGISTRY + "/proc-macro2-*")[0]
-    for name, flags in [("spans", ["--cfg", "span_locations"]), ("plain", [])]:
-        out = os.path.join(work, name)
-        os.mkdir(out)
-        rustc = ["rustc", "-O", "--out-dir", out, "--cap-lints", "allow"]
-        crate = rustc + ["--edition", "2018", "--crate-type", "rlib"]
-        subprocess.run(crate + ["--crate-name", "unicode_ident", ident + "/src/lib.rs"], check=True)
-        with_ident = crate + ["--extern", f"unicode_ident={out}/libunicode_ident.rlib"] + flags
-        subprocess.run(with_ident + ["--crate-name", "proc_macro2", peer + "/src/lib.rs"], check=True)
-        with_peer = rustc + ["--edition", "2021", "-L", out, "--extern", f"proc_macro2={out}/libproc_macro2.rlib"]
-        subprocess.run(with_peer + ["--crate-name", "peer", HERE + "/peer.rs"], check=True)
+    programs = {"this": f"{TOP}/crates/bench_lexer/out/bench_lexer"}
+    for name, flags in SYN.items():
+        crates = Crates(os.path.join(work, name.replace(" ", "-")))
+        crates.tokens(flags)
+        programs[name] = crates.program(HERE + "/peer.rs", ["proc_macro2"])
     folder = f"{TOP}/crates/bench_lexer"
     subprocess.run(["rt", "run"], cwd=folder, stdin=subprocess.DEVNULL, capture_output=True, check=True)
-    return {
-        "this": f"{TOP}/crates/bench_lexer/out/bench_lexer",
-        "peer with spans": f"{work}/spans/peer",
-        "peer without": f"{work}/plain/peer",
-    }
+    return programs
 
 
 def once(command, path):

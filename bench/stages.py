@@ -15,8 +15,9 @@ import os
 import sys
 import tempfile
 
-from canon import PEERS, is_read, peer_of, texts
-from shapes import HERE, Runner, fetch, measured
+from canon import is_read, texts
+from peers import HERE, SYN, syn_peer
+from shapes import Runner, fetch, measured
 from walks import built, crate
 
 NAME = "stages"
@@ -127,10 +128,8 @@ def measure(given, runs):
     runner = Runner()
     with tempfile.TemporaryDirectory() as work:
         programs = [given or built(work, b"1 1\n", NAME, SOURCE)]
-        for peer, flags in PEERS.items():
-            out = os.path.join(work, peer.replace(" ", "-"))
-            os.mkdir(out)
-            programs.append(peer_of(out, flags, HERE + "/stage_peer.rs"))
+        for peer, flags in SYN.items():
+            programs.append(syn_peer(os.path.join(work, peer.replace(" ", "-")), flags, HERE + "/stage_peer.rs"))
         whole = lambda part: all(is_read([program], b"1 0\n" + part) for program in (programs[0], programs[-1]))
         names = "this | peer with spans | peer without | this/with | this/without"
         print(f"| One reading, and one printing | MB | Read: {names} | Printed: {names} |")

@@ -135,6 +135,18 @@ def wrapped(head, parts, tail, between):
     return '\n'.join(lines + [line.rstrip()])
 
 
+def broken(text, mark, indent):
+    """A text in lines of at most 118 characters, each but the last with the mark behind it."""
+    lines, line = [], indent
+    for at, part in enumerate(text.split(mark)):
+        word = (mark if at else '') + part
+        if len(line) + len(word) > 118:
+            lines.append((line + mark).rstrip())
+            line, word = indent, part
+        line += word
+    return '\n'.join(lines + [line])
+
+
 def product(tys):
     return [member(ty, 'Shown') for ty in tys]
 
@@ -185,7 +197,8 @@ def shown_enum(it, alias):
     sums = []
     for name, tys in it.variants:
         inside = ' × '.join(product(tys)) or 'Unit {0}'
-        sums.append(f'({inside})' if len(tys) > 1 else inside)
+        inside = f'({inside})' if len(tys) > 1 else inside
+        sums.append(inside if len(inside) < 100 else inside.replace(' × ', '\n            × '))
     LONG.clear()
     paths = ways(len(sums))
     first = wrapped('ghost Shown = { ', sum_of(sums, paths), ' };', '')
@@ -199,7 +212,7 @@ def shown_enum(it, alias):
         head = ' '.join([f'{alias}.{antt(name)}', *letters])
         line = f'        | {head} ↦ {value}'
         if len(line) > 118:
-            line = f'        | {head} ↦\n            {value}'
+            line = f'        | {head} ↦\n' + broken(value, ', ', '            ')
         lines.append(line)
     return first + '\n\n' + '\n'.join(lines) + '\n    ] };'
 
@@ -234,7 +247,11 @@ def body_enum(it, copies):
 def names(variant, tys):
     if len(tys) == 1:
         return ['tokens' if tys[0] == 'TokenStream' else 'node']
-    return ['token' if ty.startswith(('token::', 'Option<token::')) else 'node' for ty in tys]
+    found = ['token' if ty.startswith(('token::', 'Option<token::')) else 'node' for ty in tys]
+    if len(set(found)) < len(found):
+        held = [re.findall(r'\w+', ty)[-1] for ty in tys]
+        found = [snake(name) + ('_token' if 'token::' in ty else '') for name, ty in zip(held, tys)]
+    return found
 
 
 def impl_of(it, copies):
@@ -282,6 +299,7 @@ def uses(crate, its, every, text):
             ghosts.append(f'ghost use {path}.TheVariants as {snake(it.name)}_forms;')
     words = set(re.findall(r'\w+', text.replace('syn_kinds', '')))
     homes = dict(HOMES)
+    homes.update(UseTree='crate::import')
     for it in every:
         place = 'crate' if it.crate == crate else it.crate
         homes[it.name] = place if it.module == 'lib' else f'{place}::{it.module}'

@@ -1,7 +1,8 @@
 #!/usr/bin/env python3
 """Sees that the pages hold together: lines of at most 120 characters, sentences of at most 30 words, and a README.md of
 at most 200 lines; links to pages and to headings that are there; files and folders of the repository that are there
-where a page names them; and each crate in the pages that list all, and no other.
+where a page names them; each crate in the pages that list all, and no other; and that programs in pages import from
+`syn` what it names.
 
 Usage: tests/docs.py. It prints what is amiss, and ends with status 1 if something is."""
 import os
@@ -11,6 +12,8 @@ import sys
 
 sys.dont_write_bytecode = True
 TOP = os.path.dirname(os.path.dirname(os.path.abspath(__file__)))
+sys.path.insert(0, os.path.join(TOP, 'tools'))
+from types_page import named_by_syn  # noqa: E402: it stands beside the tools
 
 NAMED = re.compile(r'(?<![\w/.(\[-])((?:bench|crates|docs|tests|tools)/[\w./-]*\w)')
 # What a page names and no checkout has: what is built, and what a reader is to make.
@@ -98,6 +101,14 @@ def missing_files(page, text):
             yield f'{page}: no such file: {name}'
 
 
+def unknown_names(page, text):
+    known = named_by_syn()
+    for group in re.findall(r'^ *use syn::\{([^}]*)\}', text, re.M):
+        for name in re.findall(r'\w+', group):
+            if name not in known:
+                yield f'{page}: syn has no {name} at its root'
+
+
 def other_crates():
     """Crates that a page which lists all doesn't have, or has and that are gone."""
     names = re.findall(r'^(\w+)[^#\n]*:', read('crates.txt'), re.M)
@@ -115,7 +126,7 @@ def main():
     amiss = [*other_crates()]
     for page in pages():
         text = read(page)
-        for look in (long_lines, long_sentences, long_readme, dead_links, missing_files):
+        for look in (long_lines, long_sentences, long_readme, dead_links, missing_files, unknown_names):
             amiss += look(page, text)
     print('\n'.join(amiss) or f'{len(pages())} pages hold together')
     return bool(amiss)

@@ -4,11 +4,10 @@
 # texts, behind an older text in their map, and asked once more where that was refused; bench_lexer on its stored input;
 # test_lexer on each text of tests/texts, behind an older text in its map, and on what it reads, builds and shows by
 # itself, literals of texts and their values among it; test_parse_core on what it reads, builds, writes and prints by
-# itself; test_growth likewise; and test_made on its stored input, whose rows are trees that are made of the syntax
-# tree's types. Each run must give the answer itself, with its status and what it says on standard error, or end with
-# nothing written: with status 3 where memory was refused (in test_lexer, test_parse_core, test_growth and test_made to
-# a call that is looked at, which then left all as it was), or with their status 4 where it was refused elsewhere.
-# canon_cli says "canon: out of memory" then, and the others nothing.
+# itself; and test_growth likewise. Each run must give the answer itself, with its status and what it says on standard
+# error, or end with nothing written: with status 3 where memory was refused (in test_lexer, test_parse_core and
+# test_growth to a call that is looked at, which then left all as it was), or with their status 4 where it was refused
+# elsewhere. canon_cli says "canon: out of memory" then, and the others nothing.
 # Usage: tests/refused.sh. `rt run` proves and builds the programs first. It needs cc, glibc and python3.
 set -euo pipefail
 cd "$(dirname "$0")"
@@ -57,7 +56,7 @@ sweep() {
         "$refused with status 3, $elsewhere elsewhere, $((answered - 1)) without effect"
 }
 
-for program in canon_cli test_canon_growth bench_lexer test_lexer test_parse_core test_growth test_made; do
+for program in canon_cli test_canon_growth bench_lexer test_lexer test_parse_core test_growth; do
     build "$program"
 done
 
@@ -136,6 +135,4 @@ answer=$work/grown.answer
 sed '/^# /,$d' ../crates/test_parse_core/stdout > "$answer"
 sweep "reading, building and printing syntax" test_parse_core /dev/null grow
 answer=../crates/test_growth/stdout
-sweep "forms that are read, written, built and compared" test_growth "$work/nothing"
-answer=../crates/test_made/stdout
-sweep "trees that are made of types" test_made ../crates/test_made/stdin
+sweep "nodes that are read, printed, compared and copied" test_growth "$work/nothing"

@@ -1,6 +1,6 @@
 #!/usr/bin/env python3
-"""Writes the stored texts as rows of crates/test_canon (whole files) and crates/test_syn (forms of other kinds), each
-with its stored answer.
+"""Writes the stored texts as rows of crates/test_canon (whole files) and crates/test_syn (these, and forms of other
+kinds), each with its stored answer.
 
   stored_rows.py            writes them into stdin and stdout, behind their heading and as far as the next one
   stored_rows.py --check    sees whether they stand there already
@@ -18,6 +18,8 @@ FORMS = '# The stored texts of tests/grammar that are forms of other kinds (stor
 
 # Asked elsewhere: names of files, and expressions that are built by hand.
 OTHERS = ('outline', 'built')
+# Kinds that stand within others alone: no call of syn reads one by itself.
+WITHIN = ('Path-expr', 'Expr-statement', 'Type-no-plus')
 
 
 def row(text):
@@ -81,8 +83,9 @@ def put(crate, head, lists, is_check):
 def main(args):
     is_check = args[:1] == ['--check']
     files = rows(lambda kind: kind == 'file', file_answer)
-    forms = rows(lambda kind: kind != 'file' and kind not in OTHERS, form_answer)
-    return max(put('test_canon', FILES, files, is_check), put('test_syn', FORMS, forms, is_check))
+    forms = rows(lambda kind: kind != 'file' and kind not in OTHERS + WITHIN, form_answer)
+    return max(put('test_canon', FILES, files, is_check), put('test_syn', FORMS, forms, is_check),
+               put('test_syn', FILES, files, is_check))
 
 
 if __name__ == '__main__':

@@ -68,7 +68,7 @@ fn text(alloc: Global, ident: &Ident) -> Result<String, AllocError>
     ensures { IfOk result (λ s. text_of s ≡ ident_text ident.now) }
 {
     let mut text = String::new(alloc);
-    write!(text, "{ident}")?;
+    ident.push_to(&mut text)?;
     Ok(text)
 }
 

@@ -1,87 +1,75 @@
-//! The impl that lists the names of an item's fields or variants, as tokens.
+//! The impl that lists the names of an item's fields or variants.
 
-use crate::members::{list_name, put_members};
-use crate::parameters::{Way, put_parameters};
-use crate::tokens::{put_group, put_ident, put_lifetime, put_mark, put_tree, put_word};
-use anyhow::Result;
-use proc_macro2::{Delimiter, Spacing, TokenStream};
-use std::alloc::Global;
-use syn::{Data, DeriveInput};
+use crate::generics::{arguments, make_impl_generics, named_type};
+use anyhow::{Result, anyhow};
+use std::alloc::{AllocError, Global};
+use syn::ext::IdentExt;
+use syn::{Data, DataUnion, DeriveInput, Fields, ItemImpl, Member, SourceMap, Variant, parse_str};
 
-// & 'static
-#[tactic(auto, using(proc_macro2::proofs::Marks::known_mark))]
-fn put_static(out: &mut TokenStream) -> Result<()> {
-    put_mark('&', Spacing::Alone, out)?;
-    put_lifetime("static", out)
+// Puts the name of a field, or the number of one without a name, in quotes.
+fn put_member(alloc: Global, member: &Member, out: &mut String) -> Result<(), AllocError> {
+    match member {
+        Member::Named(name) => write!(out, "\"{}\"", name.unraw(alloc)?),
+        Member::Unnamed(index) => write!(out, "\"{}\"", index.index),
+    }
 }
 
-// & 'static str
-fn put_text_type(out: &mut TokenStream) -> Result<()> {
-    put_static(out)?;
-    put_word("str", out)
+// Puts the names of fields, with commas between them.
+fn put_fields(alloc: Global, fields: &Fields, out: &mut String) -> Result<()> {
+    let Ok(_) = u32::try_from(fields.len()) else {
+        return Err(anyhow!("more fields than a u32 counts"));
+    };
+    for (index, member) in fields.members().enumerate() {
+        out.push_str(if index == 0 { "" } else { ", " })?;
+        put_member(alloc, &member?, out)?;
+    }
+    Ok(())
 }
 
-// & 'static [& 'static str]
-fn put_type(out: &mut TokenStream) -> Result<()> {
-    put_static(out)?;
-    let mut inside = TokenStream::new(out.allocator());
-    put_text_type(&mut inside)?;
-    put_group(Delimiter::Bracket, inside, out)
+// Puts the names of variants, with commas between them.
+fn put_variants(alloc: Global, variants: &[Variant], out: &mut String) -> Result<()> {
+    for (index, variant) in variants.iter().enumerate() {
+        out.push_str(if index == 0 { "" } else { ", " })?;
+        write!(out, "\"{}\"", variant.ident.unraw(alloc)?)?;
+    }
+    Ok(())
 }
 
-// & ["a" , "b"]
-#[tactic(auto, using(proc_macro2::proofs::Marks::known_mark))]
-fn put_texts(data: &Data, out: &mut TokenStream) -> Result<()> {
-    put_mark('&', Spacing::Alone, out)?;
-    let mut inside = TokenStream::new(out.allocator());
-    put_members(data, &mut inside)?;
-    put_group(Delimiter::Bracket, inside, out)
+// The impl as a text, for a type that is called `It`.
+fn text_of(alloc: Global, data: Data) -> Result<String> {
+    let mut text = String::new(alloc);
+    let name = if let Data::Enum(_) = data {
+        "VARIANTS"
+    } else {
+        "FIELDS"
+    };
+    write!(
+        text,
+        "impl It {{ pub const {name}: &'static [&'static str] = &["
+    )?;
+    match data {
+        Data::Struct(data) => put_fields(alloc, &data.fields, &mut text)?,
+        Data::Enum(data) => put_variants(alloc, data.variants.as_slice(), &mut text)?,
+        Data::Union(DataUnion { fields, .. }) => put_fields(
+            alloc,
+            &Fields::Named(fields),
+            &mut text,
+        )?,
+    }
+    text.push_str("]; }")?;
+    Ok(text)
 }
 
-// FIELDS : & 'static [& 'static str]
-#[tactic(auto, using(proc_macro2::proofs::Marks::known_mark))]
-fn put_list_head(data: &Data, out: &mut TokenStream) -> Result<()> {
-    put_word(list_name(data), out)?;
-    put_mark(':', Spacing::Alone, out)?;
-    put_type(out)
-}
-
-// = & ["a" , "b"] ;
-#[tactic(auto, using(proc_macro2::proofs::Marks::known_mark))]
-fn put_list(data: &Data, out: &mut TokenStream) -> Result<()> {
-    put_mark('=', Spacing::Alone, out)?;
-    put_texts(data, out)?;
-    put_mark(';', Spacing::Alone, out)
-}
-
-// pub const FIELDS : & 'static [& 'static str] = & ["a" , "b"] ;
-fn put_constant(data: &Data, out: &mut TokenStream) -> Result<()> {
-    put_word("pub", out)?;
-    put_word("const", out)?;
-    put_list_head(data, out)?;
-    put_list(data, out)
-}
-
-// impl < parameters > Name < their names > where clause
-fn put_head(input: &DeriveInput, out: &mut TokenStream) -> Result<()> {
-    put_word("impl", out)?;
-    put_parameters(input.generics, Way::Declared, out)?;
-    put_ident(input.ident, out)?;
-    put_parameters(input.generics, Way::Named, out)?;
-    put_tree(input.where_clause, out)
-}
-
-// { constant }
-fn put_body(data: &Data, out: &mut TokenStream) -> Result<()> {
-    let mut inside = TokenStream::new(out.allocator());
-    put_constant(data, &mut inside)?;
-    put_group(Delimiter::Brace, inside, out)
-}
-
-/// impl < parameters > Name < their names > where clause { constant }
-pub fn impl_of(alloc: Global, input: &DeriveInput) -> Result<TokenStream> {
-    let mut out = TokenStream::new(alloc);
-    put_head(input, &mut out)?;
-    put_body(&input.data, &mut out)?;
-    Ok(out)
+/// The impl that lists the names: read as a text, and then given the generics and the type of the item.
+///
+/// # Errors
+///
+/// Where there is no memory for it.
+pub(crate) fn impl_of(alloc: Global, input: DeriveInput) -> Result<ItemImpl> {
+    let text = text_of(alloc, input.data)?;
+    let mut made = parse_str::<ItemImpl>(alloc, text.as_str(), &mut SourceMap::new(alloc))?;
+    *made.self_ty = named_type(alloc, &input.ident, arguments(alloc, &input.generics)?)?;
+    made.generics = input.generics;
+    make_impl_generics(&mut made.generics);
+    Ok(made)
 }

@@ -1,77 +1,46 @@
-//! Numbers: those that integer literals without suffix write, and what is computed of them.
+//! Numbers: those that expressions are, and what is computed of them.
 
-ghost use Rattle.std.specs.Prelude.{◌≤◌};
+use syn::{BinOp, Expr, ExprLit, ExprUnary, Lit, Node, UnOp};
 
-use syn::Sign;
-
-// What digits are counted by.
-#[derive(Clone, Copy)]
-enum Base {
-    // `0b11`
-    Binary,
-    // `0o17`
-    Octal,
-    // `19`
-    Decimal,
-    // `0x1F`
-    Hexadecimal,
-}
-
-// How many digits a base has.
-fn radix(base: Base) -> u32
-    ensures least { 2 ≤ result }
-    ensures most { result ≤ 36 }
-{
-    match base {
-        Base::Binary => 2,
-        Base::Octal => 8,
-        Base::Decimal => 10,
-        Base::Hexadecimal => 16,
+// The number of a literal, if it is an integer without suffix that an `i128` holds.
+fn of_literal(expr: &ExprLit) -> Option<i128> {
+    match &expr.lit {
+        Lit::Int(int) if expr.attrs.is_empty() && int.suffix().is_empty() => i128::try_from(
+            int.value()?,
+        ).ok(),
+        _ => None,
     }
 }
 
-// A number with a digit of a base behind it. None where it is no digit, or it overflows.
-fn with_digit(number: i128, digit: char, base: Base) -> Option<i128> {
-    let radix = radix(base);
-    let digit = digit.to_digit(radix)?;
-    number
-        .checked_mul(i128::from(radix))?
-        .checked_add(i128::from(digit))
-}
-
-// The number that digits of a base write, underscores among them. None where one is no digit, or it overflows.
-fn digits(text: &str, base: Base) -> Option<i128> {
-    let mut number = 0i128;
-    for c in text.chars() {
-        if c != '_' {
-            number = with_digit(number, c, base)?;
-        }
+/// What stands behind a `-`, if that is the operator.
+pub(crate) fn behind_minus(expr: &ExprUnary) -> Option<&Node> {
+    match expr.op {
+        UnOp::Neg(_) if expr.attrs.is_empty() => Some(&expr.expr),
+        _ => None,
     }
-    Some(number)
 }
 
-/// The number that a literal writes, if it is an integer without suffix.
-pub(crate) fn written(text: &str) -> Option<i128> {
-    if let Some(hexadecimal) = text.strip_prefix("0x") {
-        digits(hexadecimal, Base::Hexadecimal)
-    } else if let Some(octal) = text.strip_prefix("0o") {
-        digits(octal, Base::Octal)
-    } else if let Some(binary) = text.strip_prefix("0b") {
-        digits(binary, Base::Binary)
-    } else {
-        digits(text, Base::Decimal)
+/// The number that an expression is: a literal, or one behind `-`.
+pub(crate) fn number(node: &Node) -> Option<i128> {
+    match node.as_expr()? {
+        Expr::Lit(expr) => of_literal(expr),
+        Expr::Unary(expr) => match behind_minus(expr)?.as_expr()? {
+            Expr::Lit(expr) => of_literal(expr)?.checked_neg(),
+            _ => None,
+        },
+        _ => None,
     }
 }
 
 /// What an operator makes of two numbers. None where it is none of `+`, `-`, `*`, `/` and `%`, where it would divide by
 /// zero, or where it overflows.
-pub(crate) fn computed(left: i128, operator: Sign, right: i128) -> Option<i128> {
-    match operator {
-        Sign::Plus => left.checked_add(right),
-        Sign::Minus => left.checked_sub(right),
-        Sign::Star => left.checked_mul(right),
-        Sign::Slash => left.checked_div(right),
-        Sign::Percent => left.checked_rem(right),
+pub(crate) fn computed(left: i128, op: &BinOp, right: i128) -> Option<i128> {
+    match op {
+        BinOp::Add(_) => left.checked_add(right),
+        BinOp::Sub(_) => left.checked_sub(right),
+        BinOp::Mul(_) => left.checked_mul(right),
+        BinOp::Div(_) => left.checked_div(right),
+        BinOp::Rem(_) => left.checked_rem(right),
         _ => None,
     }
 }

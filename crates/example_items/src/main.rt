@@ -1,14 +1,18 @@
-//! Lists the functions of a file, those in modules, impls, traits and extern blocks too: each with the line and the
-//! column of its name (lines from 1, columns in characters from 0), whether it is `unsafe`, and whether a doc comment
-//! or a `doc` attribute stands in front of it. The file is read from standard input.
+//! Lists the functions of a file, those in modules, impls, traits, extern blocks and bodies too: each with the line and
+//! the column of its name (lines from 1, columns in characters from 0), whether it is `unsafe`, and whether a doc
+//! comment or a `doc` attribute stands at it. The file is read from standard input.
 #![tactic(auto)]
 
 use anyhow::Result;
+use std::alloc::AllocError;
 use std::io::{Read, Write};
 use syn::{
-    Arena, Form, Kind, Leaf, LineColumn, Part, SourceMap, Span, TokenBuffer, TokenStream, Tree,
-    parse_file, put_leaves, put_nodes,
+    Attribute, File, ForeignItem, ImplItem, Item, LineColumn, Meta, Safety, Signature, SourceMap,
+    Span, TraitItem, each, parse_file,
 };
+
+// The lines of functions, each with the place of its name.
+type Rows = Vec<(LineColumn, String)>;
 
 // Where a token begins, if it stands in a text of the map.
 fn place_of(map: &SourceMap, span: Span) -> Option<LineColumn> {
@@ -20,74 +24,92 @@ fn place_of(map: &SourceMap, span: Span) -> Option<LineColumn> {
 }
 
 // Whether an attribute is a doc comment, or is written like one.
-fn is_doc(attribute: &Tree, out: &String) -> Result<bool> {
-    let mut leaves = Vec::new(*out.allocator());
-    put_leaves(attribute, &mut leaves)?;
-    Ok(match leaves.as_slice().get(2) {
-        Some(Leaf::Ident(ident)) => ident.is_text("doc"),
+fn is_doc(attribute: &Attribute) -> bool {
+    match attribute.meta.as_meta() {
+        Some(Meta::NameValue(meta)) => meta
+            .path
+            .segments
+            .iter()
+            .all(|segment| segment.ident.is_text("doc")),
         _ => false,
-    })
+    }
 }
 
-// A line for the function that has a signature.
+// The line of a function.
 fn put_function(
     map: &SourceMap,
-    signature: &Tree,
-    is_documented: bool,
-    out: &mut String,
-) -> Result<()> {
-    let Some(name) = signature.the(Part::Name) else {
+    attrs: &[Attribute],
+    sig: &Signature,
+    rows: &mut Rows,
+) -> Result<(), AllocError> {
+    let Some(place) = place_of(map, sig.ident.span()) else {
         return Ok(());
     };
-    let Form::Word(ident) = &name.form else {
-        return Ok(());
-    };
-    write!(out, "fn {ident}")?;
-    if let Some(place) = place_of(map, ident.span()) {
-        let (line, column) = (place.line, place.column);
-        write!(out, " {line}:{column}")?;
+    let LineColumn { line, column } = place;
+    let mut row = String::new(*rows.allocator());
+    write!(row, "fn {} {line}:{column}", sig.ident)?;
+    if let Safety::Unsafe(_) = sig.safety {
+        row.push_str(" unsafe")?;
     }
-    if signature.has(Part::Safety) {
-        out.push_str(" unsafe")?;
+    if attrs.iter().any(is_doc) {
+        row.push_str(" documented")?;
     }
-    if is_documented {
-        out.push_str(" documented")?;
-    }
-    out.push('\n')?;
-    Ok(())
+    Ok(rows.push((place, row))?)
 }
 
-// A line for each function of a file. In front of a function stand the attributes of the item that it is.
-fn put_functions(map: &SourceMap, file: &Tree, out: &mut String) -> Result<()> {
-    let mut nodes = Vec::new(*out.allocator());
-    put_nodes(file, &mut nodes)?;
-    let mut is_documented = false;
-    for tree in &nodes {
-        match tree.node() {
-            Some((Kind::AnItem | Kind::AForeignItem, _)) => is_documented = false,
-            Some((Kind::ATraitItem | Kind::AnImplItem, _)) => is_documented = false,
-            Some((Kind::OuterAttribute, _)) => is_documented = is_documented || is_doc(tree, out)?,
-            Some((Kind::Signature(_), inner)) => put_function(map, inner, is_documented, out)?,
-            _ => {}
+// The lines of the functions that an item is or has, outside the items in it.
+fn put_item(map: &SourceMap, item: &Item, rows: &mut Rows) -> Result<(), AllocError> {
+    match item {
+        Item::Fn(item) => put_function(map, &item.attrs, &item.sig, rows)?,
+        Item::Impl(item) => {
+            for item in &item.items {
+                if let ImplItem::Fn(item) = item {
+                    put_function(map, &item.attrs, &item.sig, rows)?;
+                }
+            }
         }
+        Item::Trait(item) => {
+            for item in &item.items {
+                if let TraitItem::Fn(item) = item {
+                    put_function(map, &item.attrs, &item.sig, rows)?;
+                }
+            }
+        }
+        Item::ForeignMod(item) => {
+            for item in &item.items {
+                if let ForeignItem::Fn(item) = item {
+                    put_function(map, &item.attrs, &item.sig, rows)?;
+                }
+            }
+        }
+        _ => (),
     }
     Ok(())
 }
 
-// The same of the file that a buffer holds.
-fn put_file(map: &SourceMap, buffer: &TokenBuffer, out: &mut String) -> Result<()> {
-    let arena = Arena::new(*out.allocator());
-    let file = parse_file(&arena, buffer)?;
-    put_functions(map, &file, out)
+// The lines of a file's functions, in the order of the text.
+fn rows_of(map: &SourceMap, file: &mut File) -> Result<Rows> {
+    let mut rows = Vec::new(*file.items.allocator());
+    for item in &file.items {
+        put_item(map, item, &mut rows)?;
+    }
+    each::in_file(file, |node| match node.as_item() {
+        Some(item) => put_item(map, item, &mut rows),
+        None => Ok(()),
+    })?;
+    rows.sort()?;
+    Ok(rows)
 }
 
-// The same of the file that a text is.
+// A line for each function of the file that a text is.
 fn put_text(text: &str, out: &mut String) -> Result<()> {
     let alloc = *out.allocator();
     let mut map = SourceMap::new(alloc);
-    let stream = TokenStream::from_str(alloc, text, &mut map)?;
-    let buffer = TokenBuffer::new2(alloc, &stream, 1)?;
-    put_file(&map, &buffer, out)
+    let mut file = parse_file(alloc, text, &mut map)?;
+    for (_, row) in rows_of(&map, &mut file)? {
+        writeln!(out, "{row}")?;
+    }
+    Ok(())
 }
 
 fn main(rt: HostRuntime) -> Result<()> {

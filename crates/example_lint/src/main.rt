@@ -3,64 +3,49 @@
 #![tactic(auto)]
 
 use anyhow::Result;
-use std::alloc::Global;
 use std::io::{Read, Write};
-use syn::{
-    Arena, Form, Kind, LineColumn, Part, SourceMap, Span, TokenBuffer, TokenStream, Tree,
-    parse_file, put_nodes,
-};
+use syn::{Expr, File, Ident, LineColumn, Node, SourceMap, each, parse_file};
 
-// Where a token begins, if it stands in a text of the map, behind other places.
-fn put_place(map: &SourceMap, span: Span, places: &mut Vec<LineColumn>) -> Result<()> {
-    if map.holds(span) && !span.eq(&Span::call_site()) {
-        places.push(span.start(map))?;
-    }
-    Ok(())
-}
-
-// Where a method's call has its name, if it calls `unwrap`.
-fn put_call(map: &SourceMap, call: &Tree, places: &mut Vec<LineColumn>) -> Result<()> {
-    let Some(name) = call.the(Part::Name) else {
-        return Ok(());
-    };
-    match &name.form {
-        Form::Word(ident) if ident.is_text("unwrap") => put_place(map, ident.span(), places),
-        _ => Ok(()),
+// The name of the method, if that is a call of `unwrap`.
+fn unwrapped(node: &Node) -> Option<&Ident> {
+    match node.as_expr() {
+        Some(Expr::MethodCall(call)) if call.method.is_text("unwrap") => Some(&call.method),
+        _ => None,
     }
 }
 
-// Where the file has such calls, in the order of the text: a call stands in the tree before the calls left of it.
-fn calls(map: &SourceMap, file: &Tree, alloc: Global) -> Result<Vec<LineColumn>> {
-    let (mut nodes, mut places) = (Vec::new(alloc), Vec::new(alloc));
-    put_nodes(file, &mut nodes)?;
-    for tree in &nodes {
-        if let Form::Back(Kind::ExprMethodCall, two) = &tree.form {
-            put_call(map, &two.back, &mut places)?;
-        }
+// Where a name stands, if it stands in a text of the map.
+fn place_of(map: &SourceMap, name: &Ident) -> Option<LineColumn> {
+    if map.holds(name.span()) {
+        Some(name.span().start(map))
+    } else {
+        None
     }
+}
+
+// Where the file has such calls, in the order of the text.
+fn places(map: &SourceMap, file: &mut File) -> Result<Vec<LineColumn>> {
+    let mut places = Vec::new(*file.items.allocator());
+    each::in_file(
+        file,
+        |node| match unwrapped(node).and_then(|name| place_of(map, name)) {
+            Some(place) => Ok(places.push(place)?),
+            None => Ok(()),
+        },
+    )?;
     places.sort()?;
     Ok(places)
 }
 
-// A line for each such call of the file that a buffer holds.
-fn put_file(map: &SourceMap, buffer: &TokenBuffer, out: &mut String) -> Result<()> {
-    let alloc = *out.allocator();
-    let arena = Arena::new(alloc);
-    let file = parse_file(&arena, buffer)?;
-    for place in &calls(map, &file, alloc)? {
-        let (line, column) = (place.line, place.column);
-        writeln!(out, "{line}:{column}: `unwrap` may panic")?;
-    }
-    Ok(())
-}
-
-// The same of the file that a text is.
+// A line for each such call of the file that a text is.
 fn put_text(text: &str, out: &mut String) -> Result<()> {
     let alloc = *out.allocator();
     let mut map = SourceMap::new(alloc);
-    let stream = TokenStream::from_str(alloc, text, &mut map)?;
-    let buffer = TokenBuffer::new2(alloc, &stream, 1)?;
-    put_file(&map, &buffer, out)
+    let mut file = parse_file(alloc, text, &mut map)?;
+    for LineColumn { line, column } in places(&map, &mut file)? {
+        writeln!(out, "{line}:{column}: `unwrap` may panic")?;
+    }
+    Ok(())
 }
 
 fn main(rt: HostRuntime) -> Result<()> {

@@ -4,4 +4,3 @@ pub mod Made
 pub mod MemberParts
 pub mod OthersMade
 pub mod TraitMade
-pub mod Derived

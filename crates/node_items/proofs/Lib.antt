@@ -1,1 +1,2 @@
+pub mod ImportCopies
 pub mod Imports

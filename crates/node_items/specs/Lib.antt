@@ -3,6 +3,7 @@ pub mod FieldLists
 pub mod FieldMembers
 pub mod FieldsPut
 pub mod FieldsTaken
+pub mod ImportCopies
 pub mod ImportTokens
 pub mod MembersLeft
 pub mod Modifiers

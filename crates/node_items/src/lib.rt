@@ -4,6 +4,7 @@
 //! and so are a type or a pattern in a signature, and an item inside a module.
 //!
 //! - `convert` (private): structs as the enums that hold them.
+//! - `copies`, `copies_data`, `copies_members`, `import_copies` (private): copies of all these.
 //! - `data`: structs, enums and unions, and their fields.
 //! - `fields` (private): the fields of a struct or of a variant, one by one.
 //! - `into_fields`: the same, taken one by one.
@@ -30,6 +31,9 @@
 
 pub mod alias;
 mod convert;
+mod copies;
+mod copies_data;
+mod copies_members;
 pub mod data;
 pub mod derive;
 mod derived;
@@ -38,6 +42,7 @@ pub mod file;
 pub mod function;
 pub mod implement;
 pub mod import;
+mod import_copies;
 mod import_tokens;
 pub mod into_fields;
 pub mod mac;

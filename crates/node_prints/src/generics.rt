@@ -2,14 +2,16 @@
 
 ghost use Rattle.node_generics.specs.declared.visibility.Visibility.TheVariants as visibilities;
 ghost use Rattle.node_views.specs.Generics as generics;
+ghost use Rattle.syn_grammar.specs.Kind as k;
+ghost use Rattle.syn_grammar.specs.Tree as trees;
 
 use crate::{TreePrinter, Trees};
-use node_to::to_tree::ToTree;
 use node_generics::Generics;
 use node_generics::clause::{PredicateType, WhereClause, WherePredicate};
 use node_generics::param::{ConstParam, GenericParam, TypeParam};
 use node_generics::visibility::{VisRestricted, Visibility};
-use node_to_types::conditions::{predicate_type, where_clause, where_predicate};
+use node_to::to_tree::ToTree;
+use node_to_types::conditions::{lone_clause, predicate_type, where_predicate};
 use node_to_types::generics::{const_param, generic_param, generics, type_param};
 use node_to_types::visibility::{vis_restricted, visibility};
 use reader_tree::arena::Arena;
@@ -73,10 +75,10 @@ impl<E: ToTree> Trees<VisRestricted<E>> for TreePrinter<E> {
 }
 
 impl<E: ToTree> Trees<WhereClause<E>> for TreePrinter<E> {
-    ghost view = { generics.where_clause E.tree };
+    ghost view = { λ x. trees.Node k.Where (trees.First (generics.clause_part E.tree x)) };
 
     fn tree<'a>(value: &'a WhereClause<E>, arena: &'a Arena) -> Result<Tree<'a>, AllocError> {
-        where_clause(arena, value)
+        lone_clause(arena, value)
     }
 }
 

@@ -3,6 +3,8 @@
 ghost use Rattle.node_views.specs.Generics as views;
 ghost use Rattle.node_words.specs.Words as words;
 ghost use Rattle.std.specs.Prelude.{◌≡◌, IfOk};
+ghost use Rattle.syn_grammar.specs.Kind as k;
+ghost use Rattle.syn_grammar.specs.Tree as trees;
 
 use node_generics::Generics;
 use node_generics::clause::{PredicateLifetime, PredicateType, WhereClause, WherePredicate};
@@ -125,6 +127,31 @@ pub fn where_clause<'a, E: ToTree>(
     )
 }
 
+// Conditions where some may stand.
+fn some_clause<'a, E: ToTree>(
+    arena: &'a Arena,
+    node: &'a WhereClause<E>,
+) -> Result<Tree<'a>, AllocError>
+    ensures { IfOk result (λ x. x ≡ trees.First (views.clause_part E.tree node.now)) }
+{
+    let named = made::called(arena, Part::Clause, where_clause(arena, node)?)?;
+    made::first(arena, named)
+}
+
+/// Conditions by themselves, where some may stand: in normal form nothing is left of a clause without any.
+///
+/// # Errors
+///
+/// Where there is no memory for them.
+pub fn lone_clause<'a, E: ToTree>(
+    arena: &'a Arena,
+    node: &'a WhereClause<E>,
+) -> Result<Tree<'a>, AllocError>
+    ensures { IfOk result (λ x. x ≡ trees.Node k.Where (trees.First (views.clause_part E.tree node.now))) }
+{
+    made::node(arena, Kind::Where, some_clause(arena, node)?)
+}
+
 // Conditions, if there are any.
 fn clause<'a, E: ToTree>(
     arena: &'a Arena,
@@ -134,10 +161,7 @@ fn clause<'a, E: ToTree>(
 {
     match &generics.where_clause {
         None => absent(arena),
-        Some(clause) => {
-            let named = made::called(arena, Part::Clause, where_clause(arena, clause)?)?;
-            made::first(arena, named)
-        }
+        Some(clause) => some_clause(arena, clause),
     }
 }
 

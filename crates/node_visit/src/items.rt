@@ -1,647 +1,229 @@
-//! The nodes that stand in types of `node_items`.
+//! Modules, data types, imports and macros as items.
 
-use crate::expressions::{in_block};
+ghost use Rattle.node_visit.specs.Calls.{Each, Leaves, Takes};
+ghost use Rattle.node_visit.specs.Items.{InForeignItem, InForeignItemFn, InForeignItemMacro, InForeignItemStatic};
+ghost use Rattle.node_visit.specs.Items.{InForeignItemType, InItemExternCrate, InItemForeignMod, InItemMacro};
+ghost use Rattle.node_visit.specs.Items.{InItemMod, InItemUse};
+ghost use Rattle.std.specs.Prelude.{IfOk, IfSome};
+
+use crate::functions::in_signature;
 use crate::generics::{in_generics, in_visibility};
-use crate::paths::{in_attribute, in_macro, in_path, in_return_type, in_type_param_bound};
-use crate::patterns::{in_pat_type};
-use crate::types::{in_type};
-use crate::Visit;
-use std::alloc::AllocError;
-use node_items::{Data, DataEnum, DataStruct, DataUnion, DeriveInput, Field, Fields, FieldsNamed, FieldsUnnamed, FnArg, ForeignItem, ForeignItemFn, ForeignItemMacro, ForeignItemStatic, ForeignItemType, ImplItem, ImplItemConst, ImplItemFn, ImplItemMacro, ImplItemType, ItemConst, ItemEnum, ItemExternCrate, ItemFn, ItemForeignMod, ItemImpl, ItemMacro, ItemMod, ItemStatic, ItemStruct, ItemTrait, ItemTraitAlias, ItemType, ItemUnion, ItemUse, Receiver, ReceiverKind, Signature, TraitItem, TraitItemConst, TraitItemFn, TraitItemMacro, TraitItemType, Variadic, Variant};
+use crate::lists::in_list;
+use crate::parts::{Part, parts_in_list};
+use crate::paths::in_macro;
+use crate::types::in_type;
+use node_items::{
+    ForeignItem, ForeignItemFn, ForeignItemMacro, ForeignItemStatic, ForeignItemType,
+    ItemExternCrate, ItemForeignMod, ItemMacro, ItemMod, ItemUse,
+};
+use syn_kinds::token;
 
-/// Visits each node that stands in it, outside the nodes in those.
+/// Calls `each` with the nodes in an `ItemMod`, and not with those in the nodes.
 ///
 /// # Errors
 ///
-/// That of a visit.
-pub fn in_item_type<E, V: Visit<E>>(node: &mut ItemType<E>, v: &mut V) -> Result<(), AllocError> {
-    for each in node.attrs.iter_mut() {
-        in_attribute(each, v)?;
-    }
-    in_visibility(&mut node.vis, v)?;
-    in_generics(&mut node.generics, v)?;
-    in_type(&mut *node.ty, v)
+/// That of the first call with one.
+pub fn in_item_mod<C, E, X, F: Fn(&mut C, &mut E) -> Result<(), X> + Copy>(
+    value: &mut ItemMod<E>,
+    context: &mut C,
+    each: F,
+) -> Result<(), X>
+    requires { InItemMod (Takes F.Fn each) value.old }
+    ensures { IfOk result (λ _. InItemMod (Leaves F.Fn each) value.new) }
+{
+    parts_in_list(&mut value.attrs, context, each)?;
+    in_visibility(&mut value.vis, context, each)?;
+    in_marked_list(&mut value.content, context, each)
 }
 
-/// Visits each node that stands in it, outside the nodes in those.
+/// Calls `each` with the nodes in an `ItemExternCrate`, and not with those in the nodes.
 ///
 /// # Errors
 ///
-/// That of a visit.
-pub fn in_fields<E, V: Visit<E>>(node: &mut Fields<E>, v: &mut V) -> Result<(), AllocError> {
-    match node {
-        Fields::Named(a) => in_fields_named(a, v),
-        Fields::Unnamed(a) => in_fields_unnamed(a, v),
-        _ => Ok(()),
-    }
+/// That of the first call with one.
+pub fn in_item_extern_crate<C, E, X, F: Fn(&mut C, &mut E) -> Result<(), X> + Copy>(
+    value: &mut ItemExternCrate<E>,
+    context: &mut C,
+    each: F,
+) -> Result<(), X>
+    requires { InItemExternCrate (Takes F.Fn each) value.old }
+    ensures { IfOk result (λ _. InItemExternCrate (Leaves F.Fn each) value.new) }
+{
+    parts_in_list(&mut value.attrs, context, each)?;
+    in_visibility(&mut value.vis, context, each)
 }
 
-/// Visits each node that stands in it, outside the nodes in those.
+/// Calls `each` with the nodes in an `ItemForeignMod`, and not with those in the nodes.
 ///
 /// # Errors
 ///
-/// That of a visit.
-pub fn in_fields_named<E, V: Visit<E>>(node: &mut FieldsNamed<E>, v: &mut V) -> Result<(), AllocError> {
-    for each in node.named.iter_mut() {
-        in_field(each, v)?;
-    }
-    Ok(())
+/// That of the first call with one.
+pub fn in_item_foreign_mod<C, E, X, F: Fn(&mut C, &mut E) -> Result<(), X> + Copy>(
+    value: &mut ItemForeignMod<E>,
+    context: &mut C,
+    each: F,
+) -> Result<(), X>
+    requires { InItemForeignMod (Takes F.Fn each) value.old }
+    ensures { IfOk result (λ _. InItemForeignMod (Leaves F.Fn each) value.new) }
+{
+    parts_in_list(&mut value.attrs, context, each)?;
+    parts_in_list(&mut value.items, context, each)
 }
 
-/// Visits each node that stands in it, outside the nodes in those.
+/// Calls `each` with the nodes in a `ForeignItem`, and not with those in the nodes.
 ///
 /// # Errors
 ///
-/// That of a visit.
-pub fn in_fields_unnamed<E, V: Visit<E>>(node: &mut FieldsUnnamed<E>, v: &mut V) -> Result<(), AllocError> {
-    for each in node.unnamed.iter_mut() {
-        in_field(each, v)?;
-    }
-    Ok(())
-}
-
-/// Visits each node that stands in it, outside the nodes in those.
-///
-/// # Errors
-///
-/// That of a visit.
-pub fn in_field<E, V: Visit<E>>(node: &mut Field<E>, v: &mut V) -> Result<(), AllocError> {
-    for each in node.attrs.iter_mut() {
-        in_attribute(each, v)?;
-    }
-    in_visibility(&mut node.vis, v)?;
-    in_type(&mut node.ty, v)?;
-    if let Some(each) = &mut node.default {
-        v.visit(&mut each.1)?;
-    }
-    Ok(())
-}
-
-/// Visits each node that stands in it, outside the nodes in those.
-///
-/// # Errors
-///
-/// That of a visit.
-pub fn in_variant<E, V: Visit<E>>(node: &mut Variant<E>, v: &mut V) -> Result<(), AllocError> {
-    for each in node.attrs.iter_mut() {
-        in_attribute(each, v)?;
-    }
-    in_fields(&mut node.fields, v)?;
-    if let Some(each) = &mut node.discriminant {
-        v.visit(&mut each.1)?;
-    }
-    Ok(())
-}
-
-/// Visits each node that stands in it, outside the nodes in those.
-///
-/// # Errors
-///
-/// That of a visit.
-pub fn in_item_struct<E, V: Visit<E>>(node: &mut ItemStruct<E>, v: &mut V) -> Result<(), AllocError> {
-    for each in node.attrs.iter_mut() {
-        in_attribute(each, v)?;
-    }
-    in_visibility(&mut node.vis, v)?;
-    in_generics(&mut node.generics, v)?;
-    in_fields(&mut node.fields, v)
-}
-
-/// Visits each node that stands in it, outside the nodes in those.
-///
-/// # Errors
-///
-/// That of a visit.
-pub fn in_item_enum<E, V: Visit<E>>(node: &mut ItemEnum<E>, v: &mut V) -> Result<(), AllocError> {
-    for each in node.attrs.iter_mut() {
-        in_attribute(each, v)?;
-    }
-    in_visibility(&mut node.vis, v)?;
-    in_generics(&mut node.generics, v)?;
-    for each in node.variants.iter_mut() {
-        in_variant(each, v)?;
-    }
-    Ok(())
-}
-
-/// Visits each node that stands in it, outside the nodes in those.
-///
-/// # Errors
-///
-/// That of a visit.
-pub fn in_item_union<E, V: Visit<E>>(node: &mut ItemUnion<E>, v: &mut V) -> Result<(), AllocError> {
-    for each in node.attrs.iter_mut() {
-        in_attribute(each, v)?;
-    }
-    in_visibility(&mut node.vis, v)?;
-    in_generics(&mut node.generics, v)?;
-    in_fields_named(&mut node.fields, v)
-}
-
-/// Visits each node that stands in it, outside the nodes in those.
-///
-/// # Errors
-///
-/// That of a visit.
-pub fn in_derive_input<E, V: Visit<E>>(node: &mut DeriveInput<E>, v: &mut V) -> Result<(), AllocError> {
-    for each in node.attrs.iter_mut() {
-        in_attribute(each, v)?;
-    }
-    in_visibility(&mut node.vis, v)?;
-    in_generics(&mut node.generics, v)?;
-    in_data(&mut node.data, v)
-}
-
-/// Visits each node that stands in it, outside the nodes in those.
-///
-/// # Errors
-///
-/// That of a visit.
-pub fn in_data<E, V: Visit<E>>(node: &mut Data<E>, v: &mut V) -> Result<(), AllocError> {
-    match node {
-        Data::Struct(a) => in_data_struct(a, v),
-        Data::Enum(a) => in_data_enum(a, v),
-        Data::Union(a) => in_data_union(a, v),
+/// That of the first call with one.
+pub fn in_foreign_item<C, E, X, F: Fn(&mut C, &mut E) -> Result<(), X> + Copy>(
+    value: &mut ForeignItem<E>,
+    context: &mut C,
+    each: F,
+) -> Result<(), X>
+    requires { InForeignItem (Takes F.Fn each) value.old }
+    ensures { IfOk result (λ _. InForeignItem (Leaves F.Fn each) value.new) }
+{
+    match value {
+        ForeignItem::Fn(function) => in_foreign_item_fn(function, context, each),
+        ForeignItem::Static(item) => in_foreign_item_static(item, context, each),
+        ForeignItem::Type(ty) => in_foreign_item_type(ty, context, each),
+        ForeignItem::Macro(call) => in_foreign_item_macro(call, context, each),
+        ForeignItem::Verbatim(_) => Ok(()),
     }
 }
 
-/// Visits each node that stands in it, outside the nodes in those.
+/// Calls `each` with the nodes in a `ForeignItemFn`, and not with those in the nodes.
 ///
 /// # Errors
 ///
-/// That of a visit.
-pub fn in_data_struct<E, V: Visit<E>>(node: &mut DataStruct<E>, v: &mut V) -> Result<(), AllocError> {
-    in_fields(&mut node.fields, v)
+/// That of the first call with one.
+pub fn in_foreign_item_fn<C, E, X, F: Fn(&mut C, &mut E) -> Result<(), X> + Copy>(
+    value: &mut ForeignItemFn<E>,
+    context: &mut C,
+    each: F,
+) -> Result<(), X>
+    requires { InForeignItemFn (Takes F.Fn each) value.old }
+    ensures { IfOk result (λ _. InForeignItemFn (Leaves F.Fn each) value.new) }
+{
+    parts_in_list(&mut value.attrs, context, each)?;
+    in_visibility(&mut value.vis, context, each)?;
+    in_signature(&mut value.sig, context, each)
 }
 
-/// Visits each node that stands in it, outside the nodes in those.
+/// Calls `each` with the nodes in a `ForeignItemStatic`, and not with those in the nodes.
 ///
 /// # Errors
 ///
-/// That of a visit.
-pub fn in_data_enum<E, V: Visit<E>>(node: &mut DataEnum<E>, v: &mut V) -> Result<(), AllocError> {
-    for each in node.variants.iter_mut() {
-        in_variant(each, v)?;
-    }
-    Ok(())
+/// That of the first call with one.
+pub fn in_foreign_item_static<C, E, X, F: Fn(&mut C, &mut E) -> Result<(), X> + Copy>(
+    value: &mut ForeignItemStatic<E>,
+    context: &mut C,
+    each: F,
+) -> Result<(), X>
+    requires { InForeignItemStatic (Takes F.Fn each) value.old }
+    ensures { IfOk result (λ _. InForeignItemStatic (Leaves F.Fn each) value.new) }
+{
+    parts_in_list(&mut value.attrs, context, each)?;
+    in_visibility(&mut value.vis, context, each)?;
+    in_type(&mut *value.ty, context, each)
 }
 
-/// Visits each node that stands in it, outside the nodes in those.
+/// Calls `each` with the nodes in a `ForeignItemType`, and not with those in the nodes.
 ///
 /// # Errors
 ///
-/// That of a visit.
-pub fn in_data_union<E, V: Visit<E>>(node: &mut DataUnion<E>, v: &mut V) -> Result<(), AllocError> {
-    in_fields_named(&mut node.fields, v)
+/// That of the first call with one.
+pub fn in_foreign_item_type<C, E, X, F: Fn(&mut C, &mut E) -> Result<(), X> + Copy>(
+    value: &mut ForeignItemType<E>,
+    context: &mut C,
+    each: F,
+) -> Result<(), X>
+    requires { InForeignItemType (Takes F.Fn each) value.old }
+    ensures { IfOk result (λ _. InForeignItemType (Leaves F.Fn each) value.new) }
+{
+    parts_in_list(&mut value.attrs, context, each)?;
+    in_visibility(&mut value.vis, context, each)?;
+    in_generics(&mut value.generics, context, each)
 }
 
-/// Visits each node that stands in it, outside the nodes in those.
+/// Calls `each` with the nodes in a `ForeignItemMacro`, and not with those in the nodes.
 ///
 /// # Errors
 ///
-/// That of a visit.
-pub fn in_item_fn<E, V: Visit<E>>(node: &mut ItemFn<E>, v: &mut V) -> Result<(), AllocError> {
-    for each in node.attrs.iter_mut() {
-        in_attribute(each, v)?;
-    }
-    in_visibility(&mut node.vis, v)?;
-    in_signature(&mut node.sig, v)?;
-    in_block(&mut *node.block, v)
+/// That of the first call with one.
+pub fn in_foreign_item_macro<C, E, X, F: Fn(&mut C, &mut E) -> Result<(), X> + Copy>(
+    value: &mut ForeignItemMacro<E>,
+    context: &mut C,
+    each: F,
+) -> Result<(), X>
+    requires { InForeignItemMacro (Takes F.Fn each) value.old }
+    ensures { IfOk result (λ _. InForeignItemMacro (Leaves F.Fn each) value.new) }
+{
+    parts_in_list(&mut value.attrs, context, each)?;
+    in_macro(&mut value.mac, context, each)
 }
 
-/// Visits each node that stands in it, outside the nodes in those.
+/// Calls `each` with the nodes in an `ItemUse`, and not with those in the nodes.
 ///
 /// # Errors
 ///
-/// That of a visit.
-pub fn in_signature<E, V: Visit<E>>(node: &mut Signature<E>, v: &mut V) -> Result<(), AllocError> {
-    in_generics(&mut node.generics, v)?;
-    for each in node.inputs.iter_mut() {
-        in_fn_arg(each, v)?;
-    }
-    if let Some(each) = &mut node.variadic {
-        in_variadic(each, v)?;
-    }
-    in_return_type(&mut node.output, v)
+/// That of the first call with one.
+pub fn in_item_use<C, E, X, F: Fn(&mut C, &mut E) -> Result<(), X> + Copy>(
+    value: &mut ItemUse<E>,
+    context: &mut C,
+    each: F,
+) -> Result<(), X>
+    requires { InItemUse (Takes F.Fn each) value.old }
+    ensures { IfOk result (λ _. InItemUse (Leaves F.Fn each) value.new) }
+{
+    parts_in_list(&mut value.attrs, context, each)?;
+    in_visibility(&mut value.vis, context, each)
 }
 
-/// Visits each node that stands in it, outside the nodes in those.
+/// Calls `each` with the nodes in an `ItemMacro`, and not with those in the nodes.
 ///
 /// # Errors
 ///
-/// That of a visit.
-pub fn in_fn_arg<E, V: Visit<E>>(node: &mut FnArg<E>, v: &mut V) -> Result<(), AllocError> {
-    match node {
-        FnArg::Receiver(a) => in_receiver(a, v),
-        FnArg::Typed(a) => in_pat_type(a, v),
-    }
+/// That of the first call with one.
+pub fn in_item_macro<C, E, X, F: Fn(&mut C, &mut E) -> Result<(), X> + Copy>(
+    value: &mut ItemMacro<E>,
+    context: &mut C,
+    each: F,
+) -> Result<(), X>
+    requires { InItemMacro (Takes F.Fn each) value.old }
+    ensures { IfOk result (λ _. InItemMacro (Leaves F.Fn each) value.new) }
+{
+    parts_in_list(&mut value.attrs, context, each)?;
+    in_macro(&mut value.mac, context, each)
 }
 
-/// Visits each node that stands in it, outside the nodes in those.
+/// Calls `each` with the nodes beside a mark, if it is there, and not with those in the nodes.
 ///
 /// # Errors
 ///
-/// That of a visit.
-pub fn in_receiver<E, V: Visit<E>>(node: &mut Receiver<E>, v: &mut V) -> Result<(), AllocError> {
-    for each in node.attrs.iter_mut() {
-        in_attribute(each, v)?;
-    }
-    in_receiver_kind(&mut node.kind, v)
-}
-
-/// Visits each node that stands in it, outside the nodes in those.
-///
-/// # Errors
-///
-/// That of a visit.
-pub fn in_receiver_kind<E, V: Visit<E>>(node: &mut ReceiverKind<E>, v: &mut V) -> Result<(), AllocError> {
-    match node {
-        ReceiverKind::Typed(_, b) => v.visit(b),
-        _ => Ok(()),
-    }
-}
-
-/// Visits each node that stands in it, outside the nodes in those.
-///
-/// # Errors
-///
-/// That of a visit.
-pub fn in_variadic<E, V: Visit<E>>(node: &mut Variadic<E>, v: &mut V) -> Result<(), AllocError> {
-    for each in node.attrs.iter_mut() {
-        in_attribute(each, v)?;
-    }
-    if let Some(each) = &mut node.pat {
-        v.visit(&mut each.0)?;
-    }
-    Ok(())
-}
-
-/// Visits each node that stands in it, outside the nodes in those.
-///
-/// # Errors
-///
-/// That of a visit.
-pub fn in_item_impl<E, V: Visit<E>>(node: &mut ItemImpl<E>, v: &mut V) -> Result<(), AllocError> {
-    for each in node.attrs.iter_mut() {
-        in_attribute(each, v)?;
-    }
-    in_generics(&mut node.generics, v)?;
-    if let Some(each) = &mut node.trait_ {
-        in_path(&mut each.0, v)?;
-    }
-    in_type(&mut *node.self_ty, v)?;
-    for each in node.items.iter_mut() {
-        in_impl_item(each, v)?;
-    }
-    Ok(())
-}
-
-/// Visits each node that stands in it, outside the nodes in those.
-///
-/// # Errors
-///
-/// That of a visit.
-pub fn in_impl_item<E, V: Visit<E>>(node: &mut ImplItem<E>, v: &mut V) -> Result<(), AllocError> {
-    match node {
-        ImplItem::Const(a) => in_impl_item_const(a, v),
-        ImplItem::Fn(a) => in_impl_item_fn(a, v),
-        ImplItem::Type(a) => in_impl_item_type(a, v),
-        ImplItem::Macro(a) => in_impl_item_macro(a, v),
-        _ => Ok(()),
+/// That of the first call with one.
+pub fn in_marked_list<C, E, X, F: Fn(&mut C, &mut E) -> Result<(), X> + Copy>(
+    value: &mut Option<(token::Brace, Vec<E>)>,
+    context: &mut C,
+    each: F,
+) -> Result<(), X>
+    requires { IfSome value.old (λ pair. Each (Takes F.Fn each) pair.1.items) }
+    ensures { IfOk result (λ _. IfSome value.new (λ pair. Each (Leaves F.Fn each) pair.1.items)) }
+{
+    match value {
+        Some((_, list)) => in_list(list, context, each),
+        None => Ok(()),
     }
 }
 
-/// Visits each node that stands in it, outside the nodes in those.
-///
-/// # Errors
-///
-/// That of a visit.
-pub fn in_impl_item_const<E, V: Visit<E>>(node: &mut ImplItemConst<E>, v: &mut V) -> Result<(), AllocError> {
-    for each in node.attrs.iter_mut() {
-        in_attribute(each, v)?;
-    }
-    in_visibility(&mut node.vis, v)?;
-    in_generics(&mut node.generics, v)?;
-    in_type(&mut node.ty, v)?;
-    v.visit(&mut node.expr)
-}
+impl<E> Part<E> for ForeignItem<E> {
+    ghost holds = { λ P x. InForeignItem P x };
 
-/// Visits each node that stands in it, outside the nodes in those.
-///
-/// # Errors
-///
-/// That of a visit.
-pub fn in_impl_item_fn<E, V: Visit<E>>(node: &mut ImplItemFn<E>, v: &mut V) -> Result<(), AllocError> {
-    for each in node.attrs.iter_mut() {
-        in_attribute(each, v)?;
+    fn in_part<C, X, F: Fn(&mut C, &mut E) -> Result<(), X> + Copy>(
+        &mut self,
+        context: &mut C,
+        each: F,
+    ) -> Result<(), X> {
+        in_foreign_item(self, context, each)
     }
-    in_visibility(&mut node.vis, v)?;
-    in_signature(&mut node.sig, v)?;
-    in_block(&mut node.block, v)
-}
-
-/// Visits each node that stands in it, outside the nodes in those.
-///
-/// # Errors
-///
-/// That of a visit.
-pub fn in_impl_item_type<E, V: Visit<E>>(node: &mut ImplItemType<E>, v: &mut V) -> Result<(), AllocError> {
-    for each in node.attrs.iter_mut() {
-        in_attribute(each, v)?;
-    }
-    in_visibility(&mut node.vis, v)?;
-    in_generics(&mut node.generics, v)?;
-    in_type(&mut node.ty, v)
-}
-
-/// Visits each node that stands in it, outside the nodes in those.
-///
-/// # Errors
-///
-/// That of a visit.
-pub fn in_impl_item_macro<E, V: Visit<E>>(node: &mut ImplItemMacro<E>, v: &mut V) -> Result<(), AllocError> {
-    for each in node.attrs.iter_mut() {
-        in_attribute(each, v)?;
-    }
-    in_macro(&mut node.mac, v)
-}
-
-/// Visits each node that stands in it, outside the nodes in those.
-///
-/// # Errors
-///
-/// That of a visit.
-pub fn in_item_use<E, V: Visit<E>>(node: &mut ItemUse<E>, v: &mut V) -> Result<(), AllocError> {
-    for each in node.attrs.iter_mut() {
-        in_attribute(each, v)?;
-    }
-    in_visibility(&mut node.vis, v)
-}
-
-/// Visits each node that stands in it, outside the nodes in those.
-///
-/// # Errors
-///
-/// That of a visit.
-pub fn in_item_macro<E, V: Visit<E>>(node: &mut ItemMacro<E>, v: &mut V) -> Result<(), AllocError> {
-    for each in node.attrs.iter_mut() {
-        in_attribute(each, v)?;
-    }
-    in_macro(&mut node.mac, v)
-}
-
-/// Visits each node that stands in it, outside the nodes in those.
-///
-/// # Errors
-///
-/// That of a visit.
-pub fn in_item_mod<E, V: Visit<E>>(node: &mut ItemMod<E>, v: &mut V) -> Result<(), AllocError> {
-    for each in node.attrs.iter_mut() {
-        in_attribute(each, v)?;
-    }
-    in_visibility(&mut node.vis, v)?;
-    if let Some(each) = &mut node.content {
-        for inner in each.1.iter_mut() {
-            v.visit(inner)?;
-        }
-    }
-    Ok(())
-}
-
-/// Visits each node that stands in it, outside the nodes in those.
-///
-/// # Errors
-///
-/// That of a visit.
-pub fn in_item_extern_crate<E, V: Visit<E>>(node: &mut ItemExternCrate<E>, v: &mut V) -> Result<(), AllocError> {
-    for each in node.attrs.iter_mut() {
-        in_attribute(each, v)?;
-    }
-    in_visibility(&mut node.vis, v)
-}
-
-/// Visits each node that stands in it, outside the nodes in those.
-///
-/// # Errors
-///
-/// That of a visit.
-pub fn in_item_foreign_mod<E, V: Visit<E>>(node: &mut ItemForeignMod<E>, v: &mut V) -> Result<(), AllocError> {
-    for each in node.attrs.iter_mut() {
-        in_attribute(each, v)?;
-    }
-    for each in node.items.iter_mut() {
-        in_foreign_item(each, v)?;
-    }
-    Ok(())
-}
-
-/// Visits each node that stands in it, outside the nodes in those.
-///
-/// # Errors
-///
-/// That of a visit.
-pub fn in_foreign_item<E, V: Visit<E>>(node: &mut ForeignItem<E>, v: &mut V) -> Result<(), AllocError> {
-    match node {
-        ForeignItem::Fn(a) => in_foreign_item_fn(a, v),
-        ForeignItem::Static(a) => in_foreign_item_static(a, v),
-        ForeignItem::Type(a) => in_foreign_item_type(a, v),
-        ForeignItem::Macro(a) => in_foreign_item_macro(a, v),
-        _ => Ok(()),
-    }
-}
-
-/// Visits each node that stands in it, outside the nodes in those.
-///
-/// # Errors
-///
-/// That of a visit.
-pub fn in_foreign_item_fn<E, V: Visit<E>>(node: &mut ForeignItemFn<E>, v: &mut V) -> Result<(), AllocError> {
-    for each in node.attrs.iter_mut() {
-        in_attribute(each, v)?;
-    }
-    in_visibility(&mut node.vis, v)?;
-    in_signature(&mut node.sig, v)
-}
-
-/// Visits each node that stands in it, outside the nodes in those.
-///
-/// # Errors
-///
-/// That of a visit.
-pub fn in_foreign_item_static<E, V: Visit<E>>(node: &mut ForeignItemStatic<E>, v: &mut V) -> Result<(), AllocError> {
-    for each in node.attrs.iter_mut() {
-        in_attribute(each, v)?;
-    }
-    in_visibility(&mut node.vis, v)?;
-    in_type(&mut *node.ty, v)
-}
-
-/// Visits each node that stands in it, outside the nodes in those.
-///
-/// # Errors
-///
-/// That of a visit.
-pub fn in_foreign_item_type<E, V: Visit<E>>(node: &mut ForeignItemType<E>, v: &mut V) -> Result<(), AllocError> {
-    for each in node.attrs.iter_mut() {
-        in_attribute(each, v)?;
-    }
-    in_visibility(&mut node.vis, v)?;
-    in_generics(&mut node.generics, v)
-}
-
-/// Visits each node that stands in it, outside the nodes in those.
-///
-/// # Errors
-///
-/// That of a visit.
-pub fn in_foreign_item_macro<E, V: Visit<E>>(node: &mut ForeignItemMacro<E>, v: &mut V) -> Result<(), AllocError> {
-    for each in node.attrs.iter_mut() {
-        in_attribute(each, v)?;
-    }
-    in_macro(&mut node.mac, v)
-}
-
-/// Visits each node that stands in it, outside the nodes in those.
-///
-/// # Errors
-///
-/// That of a visit.
-pub fn in_item_trait<E, V: Visit<E>>(node: &mut ItemTrait<E>, v: &mut V) -> Result<(), AllocError> {
-    for each in node.attrs.iter_mut() {
-        in_attribute(each, v)?;
-    }
-    in_visibility(&mut node.vis, v)?;
-    in_generics(&mut node.generics, v)?;
-    for each in node.supertraits.iter_mut() {
-        in_type_param_bound(each, v)?;
-    }
-    for each in node.items.iter_mut() {
-        in_trait_item(each, v)?;
-    }
-    Ok(())
-}
-
-/// Visits each node that stands in it, outside the nodes in those.
-///
-/// # Errors
-///
-/// That of a visit.
-pub fn in_item_trait_alias<E, V: Visit<E>>(node: &mut ItemTraitAlias<E>, v: &mut V) -> Result<(), AllocError> {
-    for each in node.attrs.iter_mut() {
-        in_attribute(each, v)?;
-    }
-    in_visibility(&mut node.vis, v)?;
-    in_generics(&mut node.generics, v)?;
-    for each in node.bounds.iter_mut() {
-        in_type_param_bound(each, v)?;
-    }
-    Ok(())
-}
-
-/// Visits each node that stands in it, outside the nodes in those.
-///
-/// # Errors
-///
-/// That of a visit.
-pub fn in_trait_item<E, V: Visit<E>>(node: &mut TraitItem<E>, v: &mut V) -> Result<(), AllocError> {
-    match node {
-        TraitItem::Const(a) => in_trait_item_const(a, v),
-        TraitItem::Fn(a) => in_trait_item_fn(a, v),
-        TraitItem::Type(a) => in_trait_item_type(a, v),
-        TraitItem::Macro(a) => in_trait_item_macro(a, v),
-        _ => Ok(()),
-    }
-}
-
-/// Visits each node that stands in it, outside the nodes in those.
-///
-/// # Errors
-///
-/// That of a visit.
-pub fn in_trait_item_const<E, V: Visit<E>>(node: &mut TraitItemConst<E>, v: &mut V) -> Result<(), AllocError> {
-    for each in node.attrs.iter_mut() {
-        in_attribute(each, v)?;
-    }
-    in_generics(&mut node.generics, v)?;
-    in_type(&mut node.ty, v)?;
-    if let Some(each) = &mut node.default {
-        v.visit(&mut each.1)?;
-    }
-    Ok(())
-}
-
-/// Visits each node that stands in it, outside the nodes in those.
-///
-/// # Errors
-///
-/// That of a visit.
-pub fn in_trait_item_fn<E, V: Visit<E>>(node: &mut TraitItemFn<E>, v: &mut V) -> Result<(), AllocError> {
-    for each in node.attrs.iter_mut() {
-        in_attribute(each, v)?;
-    }
-    in_signature(&mut node.sig, v)?;
-    if let Some(each) = &mut node.default {
-        in_block(each, v)?;
-    }
-    Ok(())
-}
-
-/// Visits each node that stands in it, outside the nodes in those.
-///
-/// # Errors
-///
-/// That of a visit.
-pub fn in_trait_item_type<E, V: Visit<E>>(node: &mut TraitItemType<E>, v: &mut V) -> Result<(), AllocError> {
-    for each in node.attrs.iter_mut() {
-        in_attribute(each, v)?;
-    }
-    in_generics(&mut node.generics, v)?;
-    for each in node.bounds.iter_mut() {
-        in_type_param_bound(each, v)?;
-    }
-    if let Some(each) = &mut node.default {
-        in_type(&mut each.1, v)?;
-    }
-    Ok(())
-}
-
-/// Visits each node that stands in it, outside the nodes in those.
-///
-/// # Errors
-///
-/// That of a visit.
-pub fn in_trait_item_macro<E, V: Visit<E>>(node: &mut TraitItemMacro<E>, v: &mut V) -> Result<(), AllocError> {
-    for each in node.attrs.iter_mut() {
-        in_attribute(each, v)?;
-    }
-    in_macro(&mut node.mac, v)
-}
-
-/// Visits each node that stands in it, outside the nodes in those.
-///
-/// # Errors
-///
-/// That of a visit.
-pub fn in_item_const<E, V: Visit<E>>(node: &mut ItemConst<E>, v: &mut V) -> Result<(), AllocError> {
-    for each in node.attrs.iter_mut() {
-        in_attribute(each, v)?;
-    }
-    in_visibility(&mut node.vis, v)?;
-    in_generics(&mut node.generics, v)?;
-    in_type(&mut *node.ty, v)?;
-    v.visit(&mut node.expr)
-}
-
-/// Visits each node that stands in it, outside the nodes in those.
-///
-/// # Errors
-///
-/// That of a visit.
-pub fn in_item_static<E, V: Visit<E>>(node: &mut ItemStatic<E>, v: &mut V) -> Result<(), AllocError> {
-    for each in node.attrs.iter_mut() {
-        in_attribute(each, v)?;
-    }
-    in_visibility(&mut node.vis, v)?;
-    in_type(&mut *node.ty, v)?;
-    v.visit(&mut node.expr)
 }

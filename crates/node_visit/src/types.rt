@@ -1,148 +1,256 @@
-//! The nodes that stand in types of `node_types`.
+//! Types.
 
-use crate::paths::{in_attribute, in_bound_lifetimes, in_path, in_q_self, in_return_type, in_type_param_bound};
-use crate::Visit;
-use std::alloc::AllocError;
-use node_types::{FnPtrArg, Type, TypeArray, TypeFnPtr, TypeImplTrait, TypeParen, TypePath, TypePtr, TypeReference, TypeSlice, TypeTraitObject, TypeTuple};
+ghost use Rattle.node_visit.specs.Calls.{Leaves, Takes};
+ghost use Rattle.node_visit.specs.Types.{InFnPtrArg, InType, InTypeArray, InTypeFnPtr, InTypeImplTrait, InTypeParen};
+ghost use Rattle.node_visit.specs.Types.{InTypePath, InTypePtr, InTypeReference, InTypeSlice, InTypeTraitObject};
+ghost use Rattle.node_visit.specs.Types.{InTypeTuple};
+ghost use Rattle.std.specs.Prelude.{IfOk, IfSome};
 
-/// Visits each node that stands in it, outside the nodes in those.
+use crate::lists::{in_separated, on_node};
+use crate::parts::{Part, part_in_optional, parts_in_list, parts_in_separated};
+use crate::paths::{in_path, in_return_type};
+use node_types::{
+    FnPtrArg, Type, TypeArray, TypeFnPtr, TypeImplTrait, TypeParen, TypePath, TypePtr,
+    TypeReference, TypeSlice, TypeTraitObject, TypeTuple,
+};
+use syn_kinds::token;
+
+/// Calls `each` with the nodes in a `Type`, and not with those in the nodes.
 ///
 /// # Errors
 ///
-/// That of a visit.
-pub fn in_type_fn_ptr<E, V: Visit<E>>(node: &mut TypeFnPtr<E>, v: &mut V) -> Result<(), AllocError> {
-    if let Some(each) = &mut node.lifetimes {
-        in_bound_lifetimes(each, v)?;
+/// That of the first call with one.
+pub fn in_type<C, E, X, F: Fn(&mut C, &mut E) -> Result<(), X> + Copy>(
+    value: &mut Type<E>,
+    context: &mut C,
+    each: F,
+) -> Result<(), X>
+    requires { InType (Takes F.Fn each) value.old }
+    ensures { IfOk result (λ _. InType (Leaves F.Fn each) value.new) }
+{
+    match value {
+        Type::Array(ty) => in_type_array(ty, context, each),
+        Type::FnPtr(ty) => in_type_fn_ptr(ty, context, each),
+        Type::ImplTrait(ty) => in_type_impl_trait(ty, context, each),
+        Type::Paren(ty) => in_type_paren(ty, context, each),
+        Type::Path(ty) => in_type_path(ty, context, each),
+        Type::Ptr(ty) => in_type_ptr(ty, context, each),
+        Type::Reference(ty) => in_type_reference(ty, context, each),
+        Type::Slice(ty) => in_type_slice(ty, context, each),
+        Type::TraitObject(ty) => in_type_trait_object(ty, context, each),
+        Type::Tuple(ty) => in_type_tuple(ty, context, each),
+        Type::Infer(_) | Type::Never(_) => Ok(()),
     }
-    for each in node.inputs.iter_mut() {
-        in_fn_ptr_arg(each, v)?;
+}
+
+/// Calls `each` with the nodes in a `TypeArray`, and not with those in the nodes.
+///
+/// # Errors
+///
+/// That of the first call with one.
+pub fn in_type_array<C, E, X, F: Fn(&mut C, &mut E) -> Result<(), X> + Copy>(
+    value: &mut TypeArray<E>,
+    context: &mut C,
+    each: F,
+) -> Result<(), X>
+    requires { InTypeArray (Takes F.Fn each) value.old }
+    ensures { IfOk result (λ _. InTypeArray (Leaves F.Fn each) value.new) }
+{
+    on_node(&mut value.elem, context, each)?;
+    on_node(&mut value.len, context, each)
+}
+
+/// Calls `each` with the nodes in a `TypeImplTrait`, and not with those in the nodes.
+///
+/// # Errors
+///
+/// That of the first call with one.
+pub fn in_type_impl_trait<C, E, X, F: Fn(&mut C, &mut E) -> Result<(), X> + Copy>(
+    value: &mut TypeImplTrait<E>,
+    context: &mut C,
+    each: F,
+) -> Result<(), X>
+    requires { InTypeImplTrait (Takes F.Fn each) value.old }
+    ensures { IfOk result (λ _. InTypeImplTrait (Leaves F.Fn each) value.new) }
+{
+    parts_in_separated(&mut value.bounds, context, each)
+}
+
+/// Calls `each` with the nodes in a `TypeParen`, and not with those in the nodes.
+///
+/// # Errors
+///
+/// That of the first call with one.
+pub fn in_type_paren<C, E, X, F: Fn(&mut C, &mut E) -> Result<(), X> + Copy>(
+    value: &mut TypeParen<E>,
+    context: &mut C,
+    each: F,
+) -> Result<(), X>
+    requires { InTypeParen (Takes F.Fn each) value.old }
+    ensures { IfOk result (λ _. InTypeParen (Leaves F.Fn each) value.new) }
+{
+    on_node(&mut value.elem, context, each)
+}
+
+/// Calls `each` with the nodes in a `TypePath`, and not with those in the nodes.
+///
+/// # Errors
+///
+/// That of the first call with one.
+pub fn in_type_path<C, E, X, F: Fn(&mut C, &mut E) -> Result<(), X> + Copy>(
+    value: &mut TypePath<E>,
+    context: &mut C,
+    each: F,
+) -> Result<(), X>
+    requires { InTypePath (Takes F.Fn each) value.old }
+    ensures { IfOk result (λ _. InTypePath (Leaves F.Fn each) value.new) }
+{
+    part_in_optional(&mut value.qself, context, each)?;
+    in_path(&mut value.path, context, each)
+}
+
+/// Calls `each` with the nodes in a `TypePtr`, and not with those in the nodes.
+///
+/// # Errors
+///
+/// That of the first call with one.
+pub fn in_type_ptr<C, E, X, F: Fn(&mut C, &mut E) -> Result<(), X> + Copy>(
+    value: &mut TypePtr<E>,
+    context: &mut C,
+    each: F,
+) -> Result<(), X>
+    requires { InTypePtr (Takes F.Fn each) value.old }
+    ensures { IfOk result (λ _. InTypePtr (Leaves F.Fn each) value.new) }
+{
+    on_node(&mut value.elem, context, each)
+}
+
+/// Calls `each` with the nodes in a `TypeReference`, and not with those in the nodes.
+///
+/// # Errors
+///
+/// That of the first call with one.
+pub fn in_type_reference<C, E, X, F: Fn(&mut C, &mut E) -> Result<(), X> + Copy>(
+    value: &mut TypeReference<E>,
+    context: &mut C,
+    each: F,
+) -> Result<(), X>
+    requires { InTypeReference (Takes F.Fn each) value.old }
+    ensures { IfOk result (λ _. InTypeReference (Leaves F.Fn each) value.new) }
+{
+    on_node(&mut value.elem, context, each)
+}
+
+/// Calls `each` with the nodes in a `TypeSlice`, and not with those in the nodes.
+///
+/// # Errors
+///
+/// That of the first call with one.
+pub fn in_type_slice<C, E, X, F: Fn(&mut C, &mut E) -> Result<(), X> + Copy>(
+    value: &mut TypeSlice<E>,
+    context: &mut C,
+    each: F,
+) -> Result<(), X>
+    requires { InTypeSlice (Takes F.Fn each) value.old }
+    ensures { IfOk result (λ _. InTypeSlice (Leaves F.Fn each) value.new) }
+{
+    on_node(&mut value.elem, context, each)
+}
+
+/// Calls `each` with the nodes in a `TypeTraitObject`, and not with those in the nodes.
+///
+/// # Errors
+///
+/// That of the first call with one.
+pub fn in_type_trait_object<C, E, X, F: Fn(&mut C, &mut E) -> Result<(), X> + Copy>(
+    value: &mut TypeTraitObject<E>,
+    context: &mut C,
+    each: F,
+) -> Result<(), X>
+    requires { InTypeTraitObject (Takes F.Fn each) value.old }
+    ensures { IfOk result (λ _. InTypeTraitObject (Leaves F.Fn each) value.new) }
+{
+    parts_in_separated(&mut value.bounds, context, each)
+}
+
+/// Calls `each` with the nodes in a `TypeTuple`, and not with those in the nodes.
+///
+/// # Errors
+///
+/// That of the first call with one.
+pub fn in_type_tuple<C, E, X, F: Fn(&mut C, &mut E) -> Result<(), X> + Copy>(
+    value: &mut TypeTuple<E>,
+    context: &mut C,
+    each: F,
+) -> Result<(), X>
+    requires { InTypeTuple (Takes F.Fn each) value.old }
+    ensures { IfOk result (λ _. InTypeTuple (Leaves F.Fn each) value.new) }
+{
+    in_separated(&mut value.elems, context, each)
+}
+
+/// Calls `each` with the nodes in a `TypeFnPtr`, and not with those in the nodes.
+///
+/// # Errors
+///
+/// That of the first call with one.
+pub fn in_type_fn_ptr<C, E, X, F: Fn(&mut C, &mut E) -> Result<(), X> + Copy>(
+    value: &mut TypeFnPtr<E>,
+    context: &mut C,
+    each: F,
+) -> Result<(), X>
+    requires { InTypeFnPtr (Takes F.Fn each) value.old }
+    ensures { IfOk result (λ _. InTypeFnPtr (Leaves F.Fn each) value.new) }
+{
+    part_in_optional(&mut value.lifetimes, context, each)?;
+    parts_in_separated(&mut value.inputs, context, each)?;
+    in_return_type(&mut value.output, context, each)
+}
+
+/// Calls `each` with the nodes in a `FnPtrArg`, and not with those in the nodes.
+///
+/// # Errors
+///
+/// That of the first call with one.
+pub fn in_fn_ptr_arg<C, E, X, F: Fn(&mut C, &mut E) -> Result<(), X> + Copy>(
+    value: &mut FnPtrArg<E>,
+    context: &mut C,
+    each: F,
+) -> Result<(), X>
+    requires { InFnPtrArg (Takes F.Fn each) value.old }
+    ensures { IfOk result (λ _. InFnPtrArg (Leaves F.Fn each) value.new) }
+{
+    parts_in_list(&mut value.attrs, context, each)?;
+    on_node(&mut value.ty, context, each)
+}
+
+/// Calls `each` with the nodes beside a mark, if it is there, and not with those in the nodes.
+///
+/// # Errors
+///
+/// That of the first call with one.
+pub fn in_marked_type<C, E, X, F: Fn(&mut C, &mut E) -> Result<(), X> + Copy>(
+    value: &mut Option<(token::Eq, Type<E>)>,
+    context: &mut C,
+    each: F,
+) -> Result<(), X>
+    requires { IfSome value.old (λ pair. InType (Takes F.Fn each) pair.1) }
+    ensures { IfOk result (λ _. IfSome value.new (λ pair. InType (Leaves F.Fn each) pair.1)) }
+{
+    match value {
+        Some((_, ty)) => in_type(ty, context, each),
+        None => Ok(()),
     }
-    in_return_type(&mut node.output, v)
 }
 
-/// Visits each node that stands in it, outside the nodes in those.
-///
-/// # Errors
-///
-/// That of a visit.
-pub fn in_fn_ptr_arg<E, V: Visit<E>>(node: &mut FnPtrArg<E>, v: &mut V) -> Result<(), AllocError> {
-    for each in node.attrs.iter_mut() {
-        in_attribute(each, v)?;
-    }
-    v.visit(&mut node.ty)
-}
+impl<E> Part<E> for FnPtrArg<E> {
+    ghost holds = { λ P x. InFnPtrArg P x };
 
-/// Visits each node that stands in it, outside the nodes in those.
-///
-/// # Errors
-///
-/// That of a visit.
-pub fn in_type_array<E, V: Visit<E>>(node: &mut TypeArray<E>, v: &mut V) -> Result<(), AllocError> {
-    v.visit(&mut node.elem)?;
-    v.visit(&mut node.len)
-}
-
-/// Visits each node that stands in it, outside the nodes in those.
-///
-/// # Errors
-///
-/// That of a visit.
-pub fn in_type_impl_trait<E, V: Visit<E>>(node: &mut TypeImplTrait<E>, v: &mut V) -> Result<(), AllocError> {
-    for each in node.bounds.iter_mut() {
-        in_type_param_bound(each, v)?;
-    }
-    Ok(())
-}
-
-/// Visits each node that stands in it, outside the nodes in those.
-///
-/// # Errors
-///
-/// That of a visit.
-pub fn in_type_paren<E, V: Visit<E>>(node: &mut TypeParen<E>, v: &mut V) -> Result<(), AllocError> {
-    v.visit(&mut node.elem)
-}
-
-/// Visits each node that stands in it, outside the nodes in those.
-///
-/// # Errors
-///
-/// That of a visit.
-pub fn in_type_path<E, V: Visit<E>>(node: &mut TypePath<E>, v: &mut V) -> Result<(), AllocError> {
-    if let Some(each) = &mut node.qself {
-        in_q_self(each, v)?;
-    }
-    in_path(&mut node.path, v)
-}
-
-/// Visits each node that stands in it, outside the nodes in those.
-///
-/// # Errors
-///
-/// That of a visit.
-pub fn in_type_ptr<E, V: Visit<E>>(node: &mut TypePtr<E>, v: &mut V) -> Result<(), AllocError> {
-    v.visit(&mut node.elem)
-}
-
-/// Visits each node that stands in it, outside the nodes in those.
-///
-/// # Errors
-///
-/// That of a visit.
-pub fn in_type_reference<E, V: Visit<E>>(node: &mut TypeReference<E>, v: &mut V) -> Result<(), AllocError> {
-    v.visit(&mut node.elem)
-}
-
-/// Visits each node that stands in it, outside the nodes in those.
-///
-/// # Errors
-///
-/// That of a visit.
-pub fn in_type_slice<E, V: Visit<E>>(node: &mut TypeSlice<E>, v: &mut V) -> Result<(), AllocError> {
-    v.visit(&mut node.elem)
-}
-
-/// Visits each node that stands in it, outside the nodes in those.
-///
-/// # Errors
-///
-/// That of a visit.
-pub fn in_type_trait_object<E, V: Visit<E>>(node: &mut TypeTraitObject<E>, v: &mut V) -> Result<(), AllocError> {
-    for each in node.bounds.iter_mut() {
-        in_type_param_bound(each, v)?;
-    }
-    Ok(())
-}
-
-/// Visits each node that stands in it, outside the nodes in those.
-///
-/// # Errors
-///
-/// That of a visit.
-pub fn in_type_tuple<E, V: Visit<E>>(node: &mut TypeTuple<E>, v: &mut V) -> Result<(), AllocError> {
-    for each in node.elems.iter_mut() {
-        v.visit(each)?;
-    }
-    Ok(())
-}
-
-/// Visits each node that stands in it, outside the nodes in those.
-///
-/// # Errors
-///
-/// That of a visit.
-pub fn in_type<E, V: Visit<E>>(node: &mut Type<E>, v: &mut V) -> Result<(), AllocError> {
-    match node {
-        Type::Array(a) => in_type_array(a, v),
-        Type::FnPtr(a) => in_type_fn_ptr(a, v),
-        Type::ImplTrait(a) => in_type_impl_trait(a, v),
-        Type::Paren(a) => in_type_paren(a, v),
-        Type::Path(a) => in_type_path(a, v),
-        Type::Ptr(a) => in_type_ptr(a, v),
-        Type::Reference(a) => in_type_reference(a, v),
-        Type::Slice(a) => in_type_slice(a, v),
-        Type::TraitObject(a) => in_type_trait_object(a, v),
-        Type::Tuple(a) => in_type_tuple(a, v),
-        _ => Ok(()),
+    fn in_part<C, X, F: Fn(&mut C, &mut E) -> Result<(), X> + Copy>(
+        &mut self,
+        context: &mut C,
+        each: F,
+    ) -> Result<(), X> {
+        in_fn_ptr_arg(self, context, each)
     }
 }

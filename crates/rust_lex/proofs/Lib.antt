@@ -25,3 +25,4 @@ pub mod Alone
 pub mod Feeds
 pub mod FileCovers
 pub mod Examples
+pub mod WideLines

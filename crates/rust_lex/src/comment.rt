@@ -1,5 +1,6 @@
 //! Where comments and docs end.
 
+ghost use Rattle.rust_lex.specs.Chars.{is_not_feed, past};
 ghost use Rattle.rust_lex.specs.Comment as comment;
 ghost use Rattle.rust_lex.specs.Ended.{IsEnd, IsFrom, IsScanned};
 ghost use Rattle.rust_lex.specs.Places.{IsBehind, IsPlace, rest_at};
@@ -7,8 +8,8 @@ ghost use Rattle.rust_lex.specs.Scan as scan;
 ghost use Rattle.std.specs.Prelude.{◌≡◌, ℕ, Bool};
 
 use crate::piece::{DocKind, PieceKind};
-use crate::walk::{Feed, NotFeed, WithinLine, begins, past_many};
-use text_chars::{Test, char_at, next_char, past_blocks};
+use crate::walk::{Feed, NotFeed, WithinLine, begins};
+use text_chars::{Test, char_at, next_char, past_blocks, past_bytes};
 
 // A character that does nothing within a comment.
 struct Quiet;
@@ -107,6 +108,26 @@ fn ends_line(text: &str, at: usize) -> bool
     (c == '\n') | ((c == '\r') & begins::<Feed>(text, next))
 }
 
+// The end of the line that is read.
+#[tactic(auto, using(crate::proofs::WideLines::past_line))]
+fn line_end(text: &str, at: usize) -> usize
+    requires { IsPlace text.now at }
+    ensures rest { rest_at text.now result ≡ past is_not_feed (rest_at text.now at) }
+    ensures from { IsFrom text.now at result }
+{
+    past_bytes::<NotFeed>(text, at)
+}
+
+// The end of a doc comment's text in the line that is read.
+#[tactic(auto, using(crate::proofs::WideLines::past_doc))]
+fn doc_end(text: &str, at: usize) -> usize
+    requires { IsPlace text.now at }
+    ensures rest { rest_at text.now result ≡ past comment.is_within_line (rest_at text.now at) }
+    ensures from { IsFrom text.now at result }
+{
+    past_bytes::<WithinLine>(text, at)
+}
+
 // What two slashes begin, which end at a place.
 #[tactic(auto, using(crate::proofs::Steps::lines))]
 fn line(text: &str, start: usize, at: usize) -> Option<(PieceKind, usize)>
@@ -117,10 +138,10 @@ fn line(text: &str, start: usize, at: usize) -> Option<(PieceKind, usize)>
         return Some((PieceKind::Comment, at));
     }
     if is_plain_line(text, at) {
-        return Some((PieceKind::Comment, past_many::<NotFeed>(text, at)));
+        return Some((PieceKind::Comment, line_end(text, at)));
     }
     let (c, next) = char_at(text, at);
-    let end = past_many::<WithinLine>(text, next);
+    let end = doc_end(text, next);
     if !ends_line(text, end) {
         return None;
     }

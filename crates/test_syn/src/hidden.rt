@@ -1,17 +1,13 @@
 //! Streams with invisible groups, which no text has, and what is read of them.
 
-use crate::faults::put_ways;
-use crate::kinds::KINDS;
+use crate::answers::{named, put_first, put_read};
+use crate::kinds::{NAMES, read};
 use crate::reading::lexed;
-use crate::wanted::{FORMS, ask_all_optional, put_form};
-use proc_macro2::{Group, Punct, TokenTree};
 use std::alloc::Global;
 use std::mem;
-use syn::{
-    Arena, Delimiter, Kind, ParseFault, ParseForms, Reader, SourceMap, Spacing, TokenBuffer,
-    TokenStream, parse_as,
-};
-use syn_input::ParseBuffer;
+use syn::buffer::TokenBuffer;
+use syn::parse::{ParseBuffer, ParseFault};
+use syn::{Delimiter, Group, Punct, Spacing, TokenStream, TokenTree};
 use test_support::{Page, Unanswered};
 
 // A stream that is put together: the lists that are open, outermost first, the innermost one, and the text that is to
@@ -89,8 +85,8 @@ impl Nest {
     }
 }
 
-/// The tokens that a row writes. Between `‹` and `›` stands an invisible group, and `$` is a joint apostrophe.
-pub(crate) fn written(alloc: Global, text: &str) -> Result<TokenStream, Unanswered> {
+// The tokens that some characters write. Between `‹` and `›` stands an invisible group, and `$` is a joint apostrophe.
+fn written(alloc: Global, text: &str) -> Result<TokenStream, Unanswered> {
     let mut nest = Nest::new(alloc);
     for c in text.chars() {
         nest.put(c)?;
@@ -103,103 +99,66 @@ pub(crate) fn written(alloc: Global, text: &str) -> Result<TokenStream, Unanswer
     }
 }
 
-/// Puts what is answered for a kind in each way, of tokens that a row writes.
-pub(crate) fn put_row(kind: Kind, text: &str, page: &mut Page) -> Result<(), Unanswered> {
-    let stream = written(page.alloc(), text)?;
-    put_ways(kind, &stream, &SourceMap::new(page.alloc()), page)
+/// Puts what is read of the tokens that a row writes, as what has that name.
+pub(crate) fn put_row(name: &str, text: &str, page: &mut Page) -> Result<(), Unanswered> {
+    put_first(named(name)?, &written(page.alloc(), text)?, page)
 }
 
-// Whether a form was read. An error where memory was refused.
-fn is_there<T: Drop>(read: Result<T, ParseFault>) -> Result<bool, Unanswered> {
-    match read {
-        Ok(_) => Ok(true),
-        Err(ParseFault::Syntax(_)) => Ok(false),
+// The same text without the marks of invisible groups.
+fn without_groups(alloc: Global, text: &str) -> Result<String, Unanswered> {
+    let mut plain = String::new(alloc);
+    for c in text.chars() {
+        if c != '‹' && c != '›' {
+            plain.push(c)?;
+        }
+    }
+    Ok(plain)
+}
+
+// Puts the print of what has that name and stands first in a stream, and whether anything is left behind it; or that
+// the stream is refused.
+fn put_short(name: &str, stream: &TokenStream, page: &mut Page) -> Result<(), Unanswered> {
+    let buffer = TokenBuffer::new2(page.alloc(), stream, 1)?;
+    let mut input = ParseBuffer::new(page.alloc(), buffer.begin());
+    match read(name, &mut input) {
+        Ok(read) => {
+            put_read(&read, page)?;
+            page.put(if input.is_empty() { "" } else { " //" });
+            Ok(())
+        }
+        Err(ParseFault::Syntax(_)) => {
+            page.put("refused");
+            Ok(())
+        }
         Err(ParseFault::Memory) => Err(Unanswered::Cut),
     }
 }
 
-// Whether all tokens before a reader are read as a form of a kind.
-fn is_before<'a>(
-    arena: &'a Arena,
-    kind: Kind,
-    buffer: &'a TokenBuffer<'a>,
+// Whether what has that name is read alike of both streams.
+fn is_alike(
+    name: &str,
+    one: &TokenStream,
+    other: &TokenStream,
+    alloc: Global,
 ) -> Result<bool, Unanswered> {
-    let mut reader = Reader::new(arena, buffer);
-    Ok(is_there(reader.parse(kind))? && reader.is_empty())
+    let mut answers = [Page::new(alloc), Page::new(alloc)];
+    put_short(name, one, &mut answers[0])?;
+    put_short(name, other, &mut answers[1])?;
+    Ok(answers[0].whole()? == answers[1].whole()?)
 }
 
-// Whether a form of a kind is read from a stream.
-fn is_streamed<'a>(
-    arena: &'a Arena,
-    kind: Kind,
-    buffer: &'a TokenBuffer<'a>,
-) -> Result<bool, Unanswered> {
-    let mut input = ParseBuffer::new(arena.alloc(), buffer.begin());
-    is_there(input.parse_as(arena, kind))
-}
-
-// Whether all tokens of a buffer are read as a form of a kind, by themselves and before a reader. From a stream none
-// may be read.
-fn is_all<'a>(
-    arena: &'a Arena,
-    kind: Kind,
-    buffer: &'a TokenBuffer<'a>,
-) -> Result<bool, Unanswered> {
-    let is_read = is_there(parse_as(arena, kind, buffer))?;
-    if is_read == is_before(arena, kind, buffer)? && !is_streamed(arena, kind, buffer)? {
-        Ok(is_read)
-    } else {
-        Err(Unanswered::NoRow)
-    }
-}
-
-// The same with trees in an arena of its own.
-fn is_kind(kind: Kind, buffer: &TokenBuffer<'_>, alloc: Global) -> Result<bool, Unanswered> {
-    let arena = Arena::new(alloc);
-    is_all(&arena, kind, buffer)
-}
-
-// Whether all tokens of a buffer are read as the form of that name.
-fn is_form(name: &str, buffer: &TokenBuffer<'_>, alloc: Global) -> Result<bool, Unanswered> {
-    let mut page = Page::new(alloc);
-    put_form(name, buffer, &SourceMap::new(alloc), &mut page)?;
-    Ok(page.whole()?.starts_with("read"))
-}
-
-// Puts a name behind others.
-fn put_name(name: &str, page: &mut Page) {
-    page.put(" ");
-    page.put(name);
-}
-
-// Puts the names of the kinds and forms as which all tokens of a buffer are read.
-fn put_names(buffer: &TokenBuffer<'_>, page: &mut Page) -> Result<(), Unanswered> {
+/// Puts the names of what is read otherwise of the tokens that a row writes than of the same tokens without invisible
+/// groups.
+pub(crate) fn put_all(text: &str, page: &mut Page) -> Result<(), Unanswered> {
     let alloc = page.alloc();
-    for (name, kind) in &KINDS {
-        if is_kind(*kind, buffer, alloc)? {
-            put_name(name, page);
-        }
-    }
-    for name in FORMS {
-        if is_form(name, buffer, alloc)? {
-            put_name(name, page);
+    let stream = written(alloc, text)?;
+    let plain = written(alloc, without_groups(alloc, text)?.as_str())?;
+    page.put("each returns, and is read otherwise:");
+    for name in &NAMES {
+        if !is_alike(name, &stream, &plain, alloc)? {
+            page.put(" ");
+            page.put(name);
         }
     }
     Ok(())
-}
-
-// Asks for each form that may be missing.
-fn ask_optional(buffer: &TokenBuffer<'_>, alloc: Global) -> Result<(), Unanswered> {
-    let arena = Arena::new(alloc);
-    ask_all_optional(&arena, buffer)
-}
-
-/// Puts the names of the kinds, and of the forms of which several are one kind, as which all of the tokens that a row
-/// writes are read. So each call that reads such a form returns, and so does each that reads one which may be missing.
-pub(crate) fn put_all(text: &str, page: &mut Page) -> Result<(), Unanswered> {
-    let stream = written(page.alloc(), text)?;
-    let buffer = TokenBuffer::new2(page.alloc(), &stream, 1)?;
-    page.put("each returns, and all is read as:");
-    put_names(&buffer, page)?;
-    ask_optional(&buffer, page.alloc())
 }

@@ -1,5 +1,5 @@
 -- Tests on characters, which are numbers, and on texts, which are lists of them.
-use Rattle.std.specs.Prelude.{ℕ, Bool, true, false, ◌&&◌, ◌==◌, nat_lt, List, [], ◌∷◌, if◌then◌else◌}
+use Rattle.std.specs.Prelude.{ℕ, Bool, true, false, ◌&&◌, ◌||◌, ◌==◌, not, nat_lt, List, [], ◌∷◌, if◌then◌else◌}
 use Rattle.std.specs.List.{list_any}
 
 -- the character is one of these
@@ -32,3 +32,7 @@ is_underscore c = c == 95
 -- a character of ASCII that passes
 abbrev pub narrow : (ℕ → Bool) → ℕ → Bool
 narrow p c = nat_lt c 128 && p c
+
+-- a character that passes, or one that isn't of ASCII
+abbrev pub or_wide : (ℕ → Bool) → ℕ → Bool
+or_wide p c = not (nat_lt c 128) || p c

@@ -12,4 +12,6 @@ mod place;
 mod walk;
 
 pub use place::{char_at, next_char};
-pub use walk::{Test, all_pass, begins, past, past_blocks, past_long, past_many, past_narrow};
+pub use walk::{
+    Test, all_pass, begins, past, past_blocks, past_bytes, past_long, past_many, past_narrow,
+};

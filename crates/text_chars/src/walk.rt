@@ -3,7 +3,7 @@
 ghost use Rattle.std.specs.List.{list_all};
 ghost use Rattle.std.specs.Prelude.{◌≡◌, ◌<◌};
 ghost use Rattle.text_chars.specs.Chars as chars;
-ghost use Rattle.text_chars.specs.Chars.{narrow};
+ghost use Rattle.text_chars.specs.Chars.{narrow, or_wide};
 ghost use Rattle.text_chars.specs.Places.{IsFrom, IsPassed, IsPlace, rest_at};
 
 use crate::place::{char_at, next_char};
@@ -148,4 +148,42 @@ pub fn past_many<T: Test>(text: &str, start: usize) -> usize
 {
     let at = past_blocks::<T>(text, start);
     past::<T>(text, at)
+}
+
+// Whether a byte is no character of ASCII, or one that passes.
+#[inline(always)]
+fn passes_or_wide<T: Test>(byte: u8) -> bool
+    ensures { result ≡ or_wide T.test byte }
+{
+    (byte >= 128) | T::passes_byte(byte)
+}
+
+// Whether bytes are all so. It looks at each of them, so that many are seen at once.
+#[inline(always)]
+fn all_pass_or_wide<T: Test>(bytes: &[u8]) -> bool
+    ensures { result ≡ list_all (or_wide T.test) bytes.now }
+{
+    let mut all = true;
+    for byte in bytes {
+        all &= passes_or_wide::<T>(*byte);
+    }
+    all
+}
+
+/// The place behind the characters that pass or aren't of ASCII, from a place on: that place where none does. It looks
+/// at bytes alone, as a byte of ASCII is a character wherever it stands.
+pub fn past_bytes<T: Test>(text: &str, start: usize) -> usize
+    requires { IsPlace text.now start }
+    ensures rest { rest_at text.now result ≡ chars.past (or_wide T.test) (rest_at text.now start) }
+    ensures from { IsFrom text.now start result }
+{
+    let bytes = text.as_bytes();
+    let mut at = start;
+    while bytes.len() - at >= BLOCK && all_pass_or_wide::<T>(&bytes[at..at + BLOCK]) {
+        at += BLOCK;
+    }
+    while at < bytes.len() && passes_or_wide::<T>(bytes[at]) {
+        at += 1;
+    }
+    at
 }

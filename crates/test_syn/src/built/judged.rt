@@ -1,46 +1,76 @@
-//! What is wrong with what is printed of a tree.
+//! What is wrong with the print of an expression that was built by hand.
 
-use crate::built::again::{Again, Asked, Question, read_again};
-use crate::built::filled::built;
-use crate::built::shape::put_shape;
-use crate::built::text::{may_shelter, opened, streams};
-use crate::reading::buffers;
-use crate::written::{Writing, put_print};
+use crate::built::changed::{strip_all, unmark_all};
+use crate::built::position::Position;
+use crate::reading::{lexed, parsed};
 use std::alloc::Global;
-use syn::{Arena, Position, TokenBuffer, TokenStream, Tree, made, normal_in};
+use syn::parse::ParseFault;
+use syn::{Expr, ToTokens, TokenStream, parse2};
 use test_support::{Page, Unanswered};
 
-/// An expression that is built of a text, and where it stands.
-#[derive(Clone, Copy)]
-pub(crate) struct Case<'t> {
-    /// The text.
-    pub(crate) text: &'t str,
-    /// The positions.
-    pub(crate) positions: &'t [Position],
-}
-
-/// What is found of an expression that was built.
-#[derive(Clone, Copy)]
-pub(crate) struct Finding {
-    /// In how many positions it gains parentheses.
-    pub(crate) gaining: usize,
-    /// Whether in each its print is right, and written too where own parts are taken for ones that were read.
-    pub(crate) is_right: bool,
-}
-
-// An expression that was built, in one position.
-#[derive(Clone, Copy)]
-struct Placed<'t> {
+// An expression that was built in a position of a text, without parentheses, and what it is printed as.
+#[derive(Drop)]
+struct Built<'t> {
     position: Position,
-    // The text that it is built of.
     text: &'t str,
-    // Its shape.
-    shape: &'t str,
+    bare: Expr,
+    tokens: TokenStream,
 }
 
-// Puts a text without some parentheses that stand in no others: those of which so many are opened before. Whether there
-// are such.
-fn put_without(text: &str, number: usize, page: &mut Page) -> bool {
+// Puts a text in a position.
+fn put_placed(position: Position, text: &str, page: &mut Page) {
+    let (front, back) = position.around();
+    page.put(front);
+    page.put(text);
+    page.put(back);
+}
+
+// Puts a text, with three pairs of parentheses in the place of each `‹` and `›`, and round all of it.
+fn put_marked(text: &str, page: &mut Page) {
+    page.put("(((");
+    for c in text.chars() {
+        match c {
+            '‹' => page.put("((("),
+            '›' => page.put(")))"),
+            _ => write!(page, "{c}"),
+        }
+    }
+    page.put(")))");
+}
+
+// The expression that is built of a text in a position: each operand between `‹` and `›`, and all of it, is put there
+// without parentheses.
+fn built(alloc: Global, position: Position, text: &str) -> Result<Expr, Unanswered> {
+    let mut marked = Page::new(alloc);
+    put_marked(text, &mut marked);
+    let mut whole = Page::new(alloc);
+    put_placed(position, marked.whole()?, &mut whole);
+    let mut expr = parsed::<Expr>(alloc, whole.whole()?)?;
+    unmark_all(alloc, &mut expr)?;
+    Ok(expr)
+}
+
+// The expression that is read of a stream, if there is one.
+fn read(alloc: Global, stream: TokenStream) -> Result<Option<Expr>, Unanswered> {
+    match parse2::<Expr>(alloc, stream) {
+        Ok(expr) => Ok(Some(expr)),
+        Err(ParseFault::Syntax(_)) => Ok(None),
+        Err(ParseFault::Memory) => Err(Unanswered::Cut),
+    }
+}
+
+// How many parentheses a text opens.
+fn opened(text: &str) -> usize {
+    text.chars().filter(|c| *c == '(').count()
+}
+
+// Whether a range may stand behind attributes, where it stands in parentheses that are not needed.
+fn may_shelter(text: &str) -> bool {
+    text.contains('#') && text.contains("..")
+}
+
+// Puts a text without some parentheses that stand in no others: those of which so many are opened before.
+fn put_without(text: &str, number: usize, page: &mut Page) {
     let (mut before, mut depth) = (0usize, 0usize);
     for c in text.chars() {
         if c == ')' {
@@ -56,242 +86,124 @@ fn put_without(text: &str, number: usize, page: &mut Page) -> bool {
             depth = depth.saturating_add(1);
         }
     }
-    before >= number
 }
 
-// Whether a text is read as the same expression.
-fn is_same(alloc: Global, placed: Placed<'_>, text: &str) -> Result<bool, Unanswered> {
-    let position = placed.position;
-    let question = Question::IsShaped(placed.shape);
-    let asked = Asked {
-        position,
-        text,
-        question,
-    };
-    Ok(matches!(read_again(alloc, asked)?, Again::Right))
-}
-
-// Whether those parentheses of a print can be left out, with the same expression read.
-fn is_spare(
-    alloc: Global,
-    placed: Placed<'_>,
-    print: &str,
-    number: usize,
-) -> Result<bool, Unanswered> {
-    let mut less = Page::new(alloc);
-    if !put_without(print, number, &mut less) {
+// Whether a text is read in the position as the expression that was built, up to parentheses.
+fn is_same(alloc: Global, built: &Built<'_>, text: &str) -> Result<bool, Unanswered> {
+    let mut whole = Page::new(alloc);
+    put_placed(built.position, text, &mut whole);
+    let Some(stream) = lexed(alloc, whole.whole()?) else {
         return Ok(false);
+    };
+    match read(alloc, stream)? {
+        Some(mut expr) => {
+            strip_all(alloc, &mut expr)?;
+            Ok(expr == built.bare)
+        }
+        None => Ok(false),
     }
-    is_same(alloc, placed, less.whole()?)
 }
 
 // How many parentheses of a print can be left out, each by itself, with the same expression read: of those that stand
 // in no others, since those within are decided as if the others weren't there.
-fn spare(alloc: Global, placed: Placed<'_>, print: &str) -> Result<usize, Unanswered> {
+fn spare(alloc: Global, built: &Built<'_>, print: &str) -> Result<usize, Unanswered> {
     let mut spare = 0usize;
-    for number in 0..opened(print) {
-        if is_spare(alloc, placed, print, number.saturating_add(1))? {
+    for number in 1..=opened(print) {
+        let mut less = Page::new(alloc);
+        put_without(print, number, &mut less);
+        if less.whole()? != print && is_same(alloc, built, less.whole()?)? {
             spare = spare.saturating_add(1);
         }
     }
     Ok(spare)
 }
 
-// How many atoms of a text are expressions in parentheses.
-fn own_parentheses(text: &str) -> usize {
-    text.matches("(c)").count()
-}
-
-// What is wrong with a print that is read as it should be.
+// What is wrong with a print that is read as it should be: it has more parentheses that it doesn't need than the text
+// has of its own.
 fn spare_fault(
     alloc: Global,
-    placed: Placed<'_>,
+    built: &Built<'_>,
     print: &str,
 ) -> Result<Option<&'static str>, Unanswered> {
-    if may_shelter(print) {
-        return Ok(None);
-    }
-    let is_needed = spare(alloc, placed, print)? <= own_parentheses(placed.text);
-    Ok(if is_needed {
-        None
+    if may_shelter(print) || spare(alloc, built, print)? <= built.text.matches("(c)").count() {
+        Ok(None)
     } else {
-        Some("with parentheses that it doesn't need")
-    })
+        Ok(Some("with parentheses that it doesn't need"))
+    }
 }
 
 // What is wrong with a print.
 fn fault(
     alloc: Global,
-    placed: Placed<'_>,
+    built: &Built<'_>,
     print: &str,
 ) -> Result<Option<&'static str>, Unanswered> {
-    let question = Question::IsItself(placed.shape);
-    let asked = Asked {
-        position: placed.position,
-        text: print,
-        question,
+    let Some(mut again) = read(alloc, built.tokens.to_token_stream(alloc)?)? else {
+        return Ok(Some("not read again"));
     };
-    match read_again(alloc, asked)? {
-        Again::Unread => Ok(Some("not read again")),
-        Again::Another => Ok(Some("read as another")),
-        Again::Otherwise => Ok(Some("written otherwise than it was read")),
-        Again::Right => spare_fault(alloc, placed, print),
+    if again.to_token_stream(alloc)? != built.tokens {
+        return Ok(Some("printed otherwise when it is read again"));
+    }
+    strip_all(alloc, &mut again)?;
+    if again != built.bare {
+        return Ok(Some("read as another"));
+    }
+    spare_fault(alloc, built, print)
+}
+
+// The print of the expression itself, of the print of all in a position.
+fn own_print(position: Position, whole: &str) -> Result<&str, Unanswered> {
+    let (front, back) = position.around();
+    match whole
+        .strip_prefix(front)
+        .and_then(|rest| rest.strip_suffix(back))
+    {
+        Some(print) => Ok(print),
+        None => Err(Unanswered::NoRow),
     }
 }
 
-// Puts a print, and what is written where own parts are taken for ones that were read, if that is another print.
-// Whether it is none.
-fn put_both(print: &str, written: &str, page: &mut Page) -> bool {
-    page.quote(print);
-    let is_one = print == written;
-    if !is_one {
-        page.put(", with own parts as they are ");
-        page.quote(written);
-    }
-    is_one
-}
-
-// Puts the print of the normal form of a tree with what is written of it. Whether these are one.
-fn put_right(
-    placed: Placed<'_>,
-    tree: &Tree<'_>,
-    print: &str,
-    page: &mut Page,
-) -> Result<bool, Unanswered> {
-    let mut written = Page::new(page.alloc());
-    put_print(Writing::Built(placed.position), tree, &mut written);
-    Ok(put_both(print, written.whole()?, page))
-}
-
-// Puts what is wrong with the print of the normal form of a tree, or the print. Whether it is right.
-fn put_verdict(
-    placed: Placed<'_>,
-    tree: &Tree<'_>,
-    print: &str,
-    page: &mut Page,
-) -> Result<bool, Unanswered> {
-    match fault(page.alloc(), placed, print)? {
+/// Puts the print of the expression that is built of a text in a position, or what is wrong with it. Whether it is
+/// right: it is read again and printed so again, is up to parentheses what was built, and has no parentheses that it
+/// doesn't need.
+pub(crate) fn put_row(position: Position, text: &str, page: &mut Page) -> Result<bool, Unanswered> {
+    let alloc = page.alloc();
+    let mut bare = built(alloc, position, text)?;
+    let tokens = bare.to_token_stream(alloc)?;
+    strip_all(alloc, &mut bare)?;
+    let mut whole = Page::new(alloc);
+    whole.show(&tokens);
+    let print = own_print(position, whole.whole()?)?;
+    let built = Built {
+        position,
+        text,
+        bare,
+        tokens,
+    };
+    match fault(alloc, &built, print)? {
         Some(what) => {
             write!(page, "{what}: {print}");
             Ok(false)
         }
-        None => put_right(placed, tree, print, page),
+        None => {
+            page.quote(print);
+            Ok(true)
+        }
     }
 }
 
-// Puts what is found of the print of the normal form of a tree.
-fn put_found(
-    placed: Placed<'_>,
-    tree: &Tree<'_>,
-    print: &str,
-    page: &mut Page,
-) -> Result<Finding, Unanswered> {
-    let is_right = put_verdict(placed, tree, print, page)?;
-    let gains = opened(print) > opened(placed.text);
-    let gaining = if gains { 1 } else { 0 };
-    Ok(Finding { gaining, is_right })
-}
-
-// Puts the print of the normal form of an expression, which is made as a tree.
-fn put_normal_of<'a>(arena: &'a Arena, position: Position, whole: &Tree<'a>, page: &mut Page) {
-    match normal_in(arena, position, whole) {
-        Ok(normal) => put_print(Writing::Plain, &normal, page),
-        Err(_) => page.cut(),
+/// Whether what is read of a text by itself, if anything is, is printed with no more parentheses than the text has. A
+/// range behind attributes may have some more.
+pub(crate) fn is_kept(alloc: Global, text: &str) -> Result<bool, Unanswered> {
+    let Some(stream) = lexed(alloc, text) else {
+        return Ok(true);
+    };
+    match read(alloc, stream)? {
+        Some(expr) => {
+            let mut print = Page::new(alloc);
+            print.show(&expr.to_token_stream(alloc)?);
+            Ok(may_shelter(text) || opened(print.whole()?) == opened(text))
+        }
+        None => Ok(true),
     }
-}
-
-// The same of the expression of a form.
-fn put_normal<'a>(arena: &'a Arena, position: Position, tree: &Tree<'a>, page: &mut Page) {
-    match made::whole(arena, tree.copy()) {
-        Ok(whole) => put_normal_of(arena, position, &whole, page),
-        Err(_) => page.cut(),
-    }
-}
-
-// Puts what is found of a tree in one position.
-fn put_placed<'a>(
-    arena: &'a Arena,
-    placed: Placed<'_>,
-    tree: &Tree<'a>,
-    page: &mut Page,
-) -> Result<Finding, Unanswered> {
-    let mut print = Page::new(arena.alloc());
-    put_normal(arena, placed.position, tree, &mut print);
-    put_found(placed, tree, print.whole()?, page)
-}
-
-// Puts what is found of a tree with that shape in each position, with `; ` between them.
-fn put_each<'a>(
-    arena: &'a Arena,
-    case: Case<'_>,
-    shape: &str,
-    tree: &Tree<'a>,
-    page: &mut Page,
-) -> Result<Finding, Unanswered> {
-    let text = case.text;
-    let (mut gaining, mut is_right, mut is_first) = (0usize, true, true);
-    for position in case.positions {
-        let placed = Placed {
-            position: *position,
-            text,
-            shape,
-        };
-        page.put(if is_first { "" } else { "; " });
-        let found = put_placed(arena, placed, tree, page)?;
-        gaining = gaining.saturating_add(found.gaining);
-        is_right &= found.is_right;
-        is_first = false;
-    }
-    Ok(Finding { gaining, is_right })
-}
-
-// The same of a tree of any shape.
-fn put_tree<'a>(
-    arena: &'a Arena,
-    case: Case<'_>,
-    tree: &Tree<'a>,
-    page: &mut Page,
-) -> Result<Finding, Unanswered> {
-    let mut shape = Page::new(arena.alloc());
-    put_shape(arena, tree, &mut shape);
-    put_each(arena, case, shape.whole()?, tree, page)
-}
-
-// The same of an expression that is built in an arena of these buffers, which are its text's.
-fn put_built<'a>(
-    arena: &'a Arena,
-    case: Case<'_>,
-    buffers: &'a [TokenBuffer<'_>],
-    page: &mut Page,
-) -> Result<Finding, Unanswered> {
-    let tree = built(arena, buffers)?;
-    put_tree(arena, case, &tree, page)
-}
-
-// The same with an arena of its own.
-fn put_of_buffers(
-    case: Case<'_>,
-    buffers: &[TokenBuffer<'_>],
-    page: &mut Page,
-) -> Result<Finding, Unanswered> {
-    let arena = Arena::new(page.alloc());
-    put_built(&arena, case, buffers, page)
-}
-
-// The same of streams.
-fn put_of_streams(
-    case: Case<'_>,
-    streams: &[TokenStream],
-    page: &mut Page,
-) -> Result<Finding, Unanswered> {
-    let buffers = buffers(page.alloc(), streams)?;
-    put_of_buffers(case, buffers.as_slice(), page)
-}
-
-/// Puts what is found of an expression that is built of a text, in each position, with `; ` between them: the print of
-/// its normal form, with what is written where own parts are taken for ones that were read, if that is another print;
-/// or what is wrong.
-pub(crate) fn put_judged(case: Case<'_>, page: &mut Page) -> Result<Finding, Unanswered> {
-    let streams = streams(page.alloc(), case.text)?;
-    put_of_streams(case, streams.as_slice(), page)
 }

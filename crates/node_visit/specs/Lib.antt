@@ -1,0 +1,12 @@
+pub mod Calls
+pub mod Paths
+pub mod Types
+pub mod Generics
+pub mod Patterns
+pub mod Atoms
+pub mod Blocks
+pub mod Expressions
+pub mod Functions
+pub mod Data
+pub mod Members
+pub mod Items

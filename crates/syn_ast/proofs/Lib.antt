@@ -1,2 +1,0 @@
-pub mod TypeForms
-pub mod Counts

@@ -1,3 +1,0 @@
-pub mod DataItems
-pub mod Listed
-pub mod ReadItems

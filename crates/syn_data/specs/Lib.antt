@@ -1,4 +1,0 @@
-pub mod Data
-pub mod Items
-pub mod Derive
-pub mod Members

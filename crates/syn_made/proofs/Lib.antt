@@ -1,3 +1,0 @@
-pub mod MadeLists
-pub mod TraitForms
-pub mod SignTexts

@@ -1,3 +1,0 @@
-pub mod MadeAst
-pub mod MadeExpr
-pub mod MadeWhole

@@ -1,2 +1,0 @@
-pub mod Associated
-pub mod Foreign

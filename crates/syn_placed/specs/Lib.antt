@@ -1,5 +1,0 @@
-pub mod Stands
-pub mod Before
-pub mod Shapes
-pub mod Parted
-pub mod Leaves

@@ -1,5 +1,0 @@
-pub mod Wholes
-pub mod Behind
-pub mod Firsts
-pub mod Singles
-pub mod Onward

@@ -1,9 +1,0 @@
-use Rattle.syn_grammar.specs.Gram.{ref}
-use Rattle.syn_grammar.specs.Kind as k
-use Rattle.syn_part.proofs.Derived.{shaped}
-use Rattle.syn_typed.proofs.Alone.{parameter_kept}
-use Rattle.syn_typed.proofs.item_forms.ParameterParse.view.Goals as goal
-
-pub returns-in-None : goal.returns-in-None
-returns-in-None c rest d =
-    c.in-None.ensures (parameter_kept c.args.tree.now rest d) (shaped c.args.tree.now (ref k.FnArg) rest d)

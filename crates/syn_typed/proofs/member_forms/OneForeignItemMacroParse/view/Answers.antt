@@ -1,8 +1,0 @@
-use Rattle.syn_grammar.specs.Gram.{ref}
-use Rattle.syn_grammar.specs.Kind as k
-use Rattle.syn_part.proofs.Derived.{shaped}
-use Rattle.syn_typed.proofs.member_forms.OneForeignItemMacroParse.view.Goals as goal
-
-pub returns-in-None : goal.returns-in-None
-returns-in-None c rest d =
-    c.in-None.ensures k.InForeign (shaped c.args.tree.now (ref (k.OneMacro k.InForeign)) rest d)

@@ -1,5 +1,0 @@
-pub mod TypeForms
-pub mod PatternForms
-pub mod StatementForms
-pub mod AmongForms
-pub mod MemberForms
